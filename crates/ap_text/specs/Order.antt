@@ -1,0 +1,15 @@
+-- The order of paths, by their bytes, and the lists that rise by an order.
+use Rattle.std.specs.Prelude.{◌↔◌, ℕ, List, Contains}
+use Rattle.std.specs.List.Sorted.{IsStrictlySortedBy}
+use Rattle.std.specs.declared.cmp.Ordering.{Ordering}
+use Rattle.std.specs.Ordering.{nat_cmp}
+use Rattle.std.specs.Cmp.Lexicographic.{slice_cmp}
+
+-- the order of texts by their bytes
+abbrev pub bytes_cmp : List ℕ → List ℕ → Ordering
+bytes_cmp = slice_cmp nat_cmp
+
+-- the strictly rising list of exactly the values for which P holds
+pub record Lists {X : Type 0} (cmp : X → X → Ordering) (P : X → Type 0) (values : List X) : Type 0 where
+  pub rises : IsStrictlySortedBy cmp values
+  pub holds : (x : X) → Contains values x ↔ P x
