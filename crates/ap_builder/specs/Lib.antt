@@ -1,0 +1,4 @@
+pub mod Paths
+pub mod Offers
+pub mod Work
+pub mod Answers

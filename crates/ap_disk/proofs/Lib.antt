@@ -1,0 +1,4 @@
+pub mod Tearing
+pub mod Logs
+pub mod Moments
+pub mod Replays

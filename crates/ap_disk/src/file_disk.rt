@@ -1,0 +1,221 @@
+ghost use Rattle.std.specs.Prelude.{◌≡◌, ◌≤◌, None, length, IfOk};
+ghost use Rattle.std.proofs.Common.{lit≤};
+ghost use Rattle.ap_text.specs.Causes.{Rose};
+
+use crate::disk::{Disk, DiskFault};
+use ap_text::OutOfMemory;
+use std::fs::{Files, OpenFile, OpenOptions};
+use std::io;
+use std::io::{Read, Seek, SeekFrom, Write};
+
+/// A disk over a real file, which it opens, or makes where it is absent, at the first call. It tells nothing
+/// of its content, and its `rest` does nothing.
+#[derive(Drop)]
+pub struct FileDisk<R: Files> {
+    rt: R,
+    path: String,
+    file: Option<R::File>,
+    is_folder_synced: bool,
+    faults: u64,
+}
+
+impl<R: Files + AllocGlobal + Drop> FileDisk<R> {
+    /// The disk of the file at this path. Nothing is opened.
+    pub fn new(rt: R, file: &str) -> Result<Self, OutOfMemory> {
+        let path = String::from_str(rt.alloc(), file)?;
+        Ok(FileDisk {
+            rt,
+            path,
+            file: None,
+            is_folder_synced: false,
+            faults: 0,
+        })
+    }
+}
+
+impl<R: Files + Drop> FileDisk<R> {
+    /// The open file, taken out of the disk until it is given back.
+    fn open(&mut self) -> io::Result<R::File>
+        ensures { self.new.faults ≡ self.old.faults }
+    {
+        match self.file.take() {
+            Some(file) => Ok(file),
+            None => OpenOptions::new()
+                .read(true)
+                .write(true)
+                .create(true)
+                .open(&self.rt, self.path.as_str()),
+        }
+    }
+
+    fn try_len(&mut self) -> io::Result<u64>
+        ensures { self.new.faults ≡ self.old.faults }
+    {
+        let mut file = self.open()?;
+        let result = file.seek(SeekFrom::End(0));
+        self.file = Some(file);
+        result
+    }
+
+    fn try_read(&mut self, at: u64, buf: &mut [u8]) -> io::Result<usize>
+        ensures faults { self.new.faults ≡ self.old.faults }
+        ensures count { IfOk result (λ count. count ≤ length buf.old) }
+    {
+        let mut file = self.open()?;
+        let result = read_at(&mut file, at, buf);
+        self.file = Some(file);
+        result
+    }
+
+    fn try_write(&mut self, at: u64, bytes: &[u8]) -> io::Result<()>
+        ensures { self.new.faults ≡ self.old.faults }
+    {
+        let mut file = self.open()?;
+        let result = write_at(&mut file, at, bytes);
+        self.file = Some(file);
+        result
+    }
+
+    fn try_cut(&mut self, len: u64) -> io::Result<()>
+        ensures { self.new.faults ≡ self.old.faults }
+    {
+        let mut file = self.open()?;
+        let result = cut_to(&mut file, len);
+        self.file = Some(file);
+        result
+    }
+
+    fn try_sync(&mut self) -> io::Result<()>
+        ensures { self.new.faults ≡ self.old.faults }
+    {
+        let file = self.open()?;
+        let result = file.sync_all();
+        self.file = Some(file);
+        result?;
+        if !self.is_folder_synced {
+            sync_folder(&self.rt, self.path.as_str())?;
+            self.is_folder_synced = true;
+        }
+        Ok(())
+    }
+
+    /// Counts a fault.
+    fn fault(&mut self) -> DiskFault
+        ensures later { self.old.faults ≤ self.new.faults }
+        ensures rose { Rose self.old.faults self.new.faults }
+    {
+        self.faults = self.faults.saturating_add(1);
+        DiskFault::Failed
+    }
+}
+
+/// Reads from an offset until the buffer is full or the file ends.
+fn read_at<F: Read + Seek>(file: &mut F, at: u64, buf: &mut [u8]) -> io::Result<usize>
+    ensures { IfOk result (λ count. count ≤ length buf.old) }
+{
+    file.seek(SeekFrom::Start(at))?;
+    let mut count = 0;
+    while count < buf.len() {
+        let more = file.read(&mut buf[count..])?;
+        if more == 0 {
+            break;
+        }
+        count += more;
+    }
+    Ok(count)
+}
+
+/// Writes at an offset. A gap before it is zeros.
+fn write_at<F: Write + Seek + OpenFile>(file: &mut F, at: u64, bytes: &[u8]) -> io::Result<()> {
+    let len = file.seek(SeekFrom::End(0))?;
+    if len < at {
+        file.set_len(at)?;
+    }
+    file.seek(SeekFrom::Start(at))?;
+    file.write_all(bytes)
+}
+
+/// Cuts the file, where it is longer.
+fn cut_to<F: Seek + OpenFile>(file: &mut F, len: u64) -> io::Result<()> {
+    if len < file.seek(SeekFrom::End(0))? {
+        file.set_len(len)?;
+    }
+    Ok(())
+}
+
+/// Makes the name of a new file last.
+fn sync_folder<R: Files>(rt: &R, path: &str) -> io::Result<()> {
+    let folder = match path.rfind('/') {
+        None => ".",
+        Some(0) => "/",
+        Some(at) => &path[..at],
+    };
+    OpenOptions::new().read(true).open(rt, folder)?.sync_all()
+}
+
+impl<R: Files + Drop> Disk for FileDisk<R> {
+    ghost seen = { λ _. None };
+
+    ghost may_leave = { λ _ _. ⊥ };
+
+    ghost clock = { λ _. None };
+
+    ghost left_at = { λ _ _ _. ⊥ };
+
+    ghost room = { λ _. 18446744073709551615 };
+
+    ghost faults = { λ d. d.faults };
+
+    ghost holds_store = { λ d. lit≤ tt };
+
+    ghost within = { λ d. tt };
+
+    ghost itself = { λ d. tt };
+
+    ghost now_is_last = { λ d. tt };
+
+    fn len(&mut self) -> Result<u64, DiskFault> {
+        match self.try_len() {
+            Ok(len) => Ok(len),
+            Err(_) => Err(self.fault()),
+        }
+    }
+
+    fn read(&mut self, at: u64, buf: &mut [u8]) -> Result<usize, DiskFault> {
+        match self.try_read(at, buf) {
+            Ok(count) => Ok(count),
+            Err(_) => Err(self.fault()),
+        }
+    }
+
+    fn write_at(&mut self, at: u64, bytes: &[u8]) -> Result<(), DiskFault> {
+        match self.try_write(at, bytes) {
+            Ok(()) => Ok(()),
+            Err(_) => Err(self.fault()),
+        }
+    }
+
+    fn cut(&mut self, len: u64) -> Result<(), DiskFault> {
+        match self.try_cut(len) {
+            Ok(()) => Ok(()),
+            Err(_) => Err(self.fault()),
+        }
+    }
+
+    fn sync(&mut self) -> Result<(), DiskFault> {
+        match self.try_sync() {
+            Ok(()) => Ok(()),
+            Err(_) => Err(self.fault()),
+        }
+    }
+
+    fn rest(&mut self) {}
+
+    fn room(&self) -> u64 {
+        u64::MAX
+    }
+
+    fn faults(&self) -> u64 {
+        self.faults
+    }
+}

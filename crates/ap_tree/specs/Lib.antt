@@ -1,0 +1,4 @@
+pub mod Files
+pub mod Changes
+pub mod Written
+pub mod Slots
