@@ -1,0 +1,9 @@
+pub mod Apart
+pub mod Gaining
+pub mod Gathering
+pub mod Laying
+pub mod OneOf
+pub mod Rising
+pub mod Running
+pub mod Sorting
+pub mod TwoLists

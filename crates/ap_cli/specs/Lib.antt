@@ -1,0 +1,15 @@
+pub mod Words
+pub mod Sources
+pub mod Listing
+pub mod Steps
+pub mod Layout
+pub mod Neighbours
+pub mod Work
+pub mod Overlay
+pub mod Output
+pub mod Lines
+pub mod Run
+pub mod Making
+pub mod Refusals
+pub mod CopyBuilder
+pub mod CopyLaws

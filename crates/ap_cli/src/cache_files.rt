@@ -1,0 +1,34 @@
+ghost use Rattle.std.specs.Prelude.{◌≡◌, ◌≤◌, ◌⊎◌, true, IfErr, OnOk};
+ghost use Rattle.ap_text.specs.Causes.{Rose};
+ghost use Rattle.ap_tree.specs.Files.{has_distinct_paths};
+ghost use Rattle.ap_tree.specs.Changes.{TellsAs};
+ghost use Rattle.ap_cli.specs.Overlay.{Overlays};
+ghost use Rattle.ap_cli.specs.declared.stop.Stop.TheVariants.{Cache, Memory};
+
+use crate::stop::Stop;
+use ap_text::Bytes;
+use ap_tree::{CacheDir, CacheFault};
+use std::alloc::Global;
+
+/// Writes all files into the cache, in their order.
+pub(crate) fn write_all<C: CacheDir>(
+    alloc: Global,
+    cache: &mut C,
+    files: &[(Bytes, Bytes)],
+) -> Result<(), Stop>
+    requires { has_distinct_paths files.now ≡ true }
+    ensures put { OnOk result (TellsAs (C.files cache.old) (C.files cache.new) (Overlays files.now)) }
+    ensures cause { IfErr result (λ stop. stop ≡ Cache → Rose (C.faults cache.old) (C.faults cache.new)) }
+    ensures only { IfErr result (λ stop. (stop ≡ Memory) ⊎ (stop ≡ Cache)) }
+    ensures later { C.faults cache.old ≤ C.faults cache.new }
+{
+    let mut rest = files;
+    while let [file, after @ ..] = rest {
+        match cache.write(alloc, file.0.as_slice(), file.1.as_slice()) {
+            Ok(()) => rest = after,
+            Err(CacheFault::Failed) => return Err(Stop::Cache),
+            Err(CacheFault::OutOfMemory) => return Err(Stop::Memory),
+        }
+    }
+    Ok(())
+}

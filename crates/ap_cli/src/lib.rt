@@ -1,0 +1,25 @@
+//! The top call of the Asset Processor: one command line over a source tree, a cache of products, a store, a
+//! set of builders with their bench, and an output.
+#![tactic(auto)]
+
+mod batch;
+mod cache_files;
+mod conflicts;
+mod copy_builder;
+mod create;
+mod gather;
+mod layout;
+mod made;
+mod make;
+mod output;
+mod process;
+mod report;
+mod source;
+mod stop;
+#[cfg(test)]
+mod tests;
+mod top;
+mod words;
+
+pub use copy_builder::{CopyBuilder, CopyPass};
+pub use top::run;
