@@ -1,0 +1,4 @@
+pub mod Views
+pub mod Tickets
+pub mod Learned
+pub mod Seats
