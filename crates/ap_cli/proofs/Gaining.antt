@@ -1,5 +1,5 @@
 -- A sink that gains one text and then another.
-use Rattle.std.proofs.Common.{◌≡◌, ◌-◌, ℕ, List, [], ◌++◌, length, take, drop, refl, sym, ◌∙◌, ap, arith, append_assoc}
+use Rattle.std.proofs.Common.{◌≡◌, ◌≤◌, ◌+◌, ◌-◌, length-append, length-take-le, ℕ, List, [], ◌++◌, length, take, drop, refl, sym, ◌∙◌, ap, arith, append_assoc}
 use Rattle.std.proofs.lemmas.List.{append-nil, take_rest, take-append-drop, take_at}
 use Rattle.std.specs.Prelude.{Option, Some, None, Result, Ok, Err, OnOk, OnErr}
 use Rattle.std.proofs.Math.Seq.{take-length}
@@ -44,3 +44,8 @@ pub front_either_way : {E : Type 0} (a b : Option (List ℕ)) (text : List ℕ) 
     OnOk result (Gains a b text) → OnErr result (GainsFront a b text) → GainsFront a b text
 front_either_way a b text (Ok u) whole front = whole_front a b text whole
 front_either_way a b text (Err e) whole front = front
+
+-- the room after some bytes more
+pub room_left : (done rest : List ℕ) (count start room now : ℕ) → start ≤ room + length done → room ≤ now + count → count ≤ length rest → start ≤ now + length (done ++ take count rest)
+room_left done rest count start room now left taken bound =
+    rw (length-append done (take count rest), length-take-le count rest bound) (omega arith)

@@ -1,5 +1,5 @@
 -- The sources that were read are the folder's.
-use Rattle.std.proofs.Common.{◌≡◌, ◌≤◌, ◌⊎◌, ℕ, Bool, true, false, List, [], ◌∷◌, length, Contains, map, refl, sym, ◌∙◌, ap, subst, arith, ⊎_elim}
+use Rattle.std.proofs.Common.{◌≡◌, ◌<◌, ◌≤◌, ◌⊎◌, ℕ, Bool, true, false, List, [], ◌∷◌, length, Contains, map, refl, sym, ◌∙◌, ap, subst, arith, ⊎_elim}
 use Rattle.std.specs.Prelude.{Option, Some, None, IfSome, IsPermutation, nat_le, if◌then◌else◌}
 use Rattle.std.specs.List.Sorted.{IsStrictlySortedBy}
 use Rattle.std.specs.declared.cmp.Ordering.TheVariants.{Less}
@@ -12,8 +12,10 @@ use Rattle.ap_text.specs.Order.{bytes_cmp}
 use Rattle.ap_text.proofs.Members.{Contains-none, Contains-head, Contains-tail_of, Contains-cons_cases, Contains-map, Contains-map_cases, AllByRecursion-at, AllByRecursion-from}
 use Rattle.ap_tree.specs.Files.{names_below, content_at, seen_up_to}
 use Rattle.ap_cli.specs.declared.source.Source.{Source}
-use Rattle.ap_cli.specs.Sources.{Files, in_folder, IsSource, AreSources, source_cmp}
-use Rattle.ap_cli.specs.Listing.{Listing, listing_of, listing_cmp, IsReadable, read_of, with_source}
+use Rattle.ap_cli.specs.Sources.{Files, in_folder, IsSource, AreSources, IsReadable, HasOwnPaths, source_cmp}
+use Rattle.ap_cli.specs.Unbuilt.{IsUnreadable, no_path, alike, too_large}
+use Rattle.ap_cli.proofs.OwnPaths.{own_paths, same_names}
+use Rattle.ap_cli.specs.Listing.{Listing, listing_of, listing_cmp, read_of, with_source}
 
 abbrev pub source_at : Listing → List ℕ → Source
 source_at file bytes = record { path = file.0; name = file.1; bytes = bytes }
@@ -122,6 +124,43 @@ module _ (folder : List ℕ) (files : Files) where
           )
       by_first in_rest (gone none read) = in_rest sources read
 
+  readable_below : (names : List (List ℕ)) → IsPermutation (names_below folder files) names → IsReadable names → IsReadable (names_below folder files)
+  readable_below names lists readable = AllByRecursion-from IsRelPath (names_below folder files)
+      (λ name member. AllByRecursion-at IsRelPath names name readable (Contains-permutation (names_below folder files) names name lists member))
+
+  readable_listed : (names : List (List ℕ)) → IsPermutation (names_below folder files) names → IsReadable (names_below folder files) → IsReadable names
+  readable_listed names lists readable = AllByRecursion-from IsRelPath names
+      (λ name member. AllByRecursion-at IsRelPath (names_below folder files) name readable (Contains-permutation names (names_below folder files) name (IsPermutation-sym (names_below folder files) names lists) member))
+
+  -- a listed file that is too large
+  pub record Large (listed : List Listing) : Type 0 where
+    pub file : Listing
+    pub bytes : List ℕ
+    pub member : Contains listed file
+    pub has : content_at files (in_folder folder file.1) ≡ Some bytes
+    pub large : 4194304 < length bytes
+
+  -- where reading stopped, a file is too large
+  pub large_in : (listed : List Listing) → read_of folder files listed ≡ None → Large listed
+  large_in [] none = cc
+  large_in (file ∷ rest) none = by_content (λ n. large_in rest n) (content_at files (in_folder folder file.1)) (read_of folder files rest) refl refl none
+    where
+      later : Large rest → Large (file ∷ rest)
+      later r = record { file = r.file; bytes = r.bytes; member = Contains-tail_of file rest r.file r.member; has = r.has; large = r.large }
+
+      by_test : (bytes : List ℕ) (after : List Source) (small : Bool) → nat_le (length bytes) 4194304 ≡ small →
+          content_at files (in_folder folder file.1) ≡ Some bytes →
+          with_source file (if small then Bytes bytes else TooLarge) (Some after) ≡ None → Large (file ∷ rest)
+      by_test bytes after true small has none = cc
+      by_test bytes after false small has none = record { file = file; bytes = bytes; member = Contains-head file rest; has = has; large = grind (arith, small, common_steps) }
+
+      by_content : (read_of folder files rest ≡ None → Large rest) → (seen : Option (List ℕ)) (after : Option (List Source)) →
+          content_at files (in_folder folder file.1) ≡ seen → read_of folder files rest ≡ after →
+          with_source file (seen_up_to 4194304 seen) after ≡ None → Large (file ∷ rest)
+      by_content in_rest seen None has read none = later (in_rest read)
+      by_content in_rest None (Some after) has read none = cc
+      by_content in_rest (Some bytes) (Some after) has read none = by_test bytes after (nat_le (length bytes) 4194304) refl has none
+
   module _ (names : List (List ℕ)) (listed : List Listing) (sources : List Source)
       (lists : IsPermutation (names_below folder files) names) (readable : IsReadable names)
       (same : IsPermutation (map listing_of names) listed) (rises : IsStrictlySortedBy listing_cmp listed)
@@ -150,13 +189,44 @@ module _ (folder : List ℕ) (files : Files) where
 
     pub gathered : AreSources folder files sources
     gathered = record {
-      readable = λ name member. AllByRecursion-at IsRelPath names name readable (Contains-permutation (names_below folder files) names name lists member);
+      readable = readable_below names lists readable;
+      own = same_names names (names_below folder files) (IsPermutation-sym (names_below folder files) names lists) (own_paths names listed same rises);
       small = λ name bytes member has. (is_read listed sources read (listing_of name) bytes (in_listed name member) has).0;
       lists = record {
         rises = sources_rise listed sources read rises;
         holds = λ source. (source_of_member source, member_of_source source);
       };
     }
+
+-- why a folder wasn't read
+module _ (folder : List ℕ) (files : Files) (names : List (List ℕ)) (lists : IsPermutation (names_below folder files) names) where
+  unreadable_names : (¬ IsReadable names) ⊎ (¬ HasOwnPaths names) → IsUnreadable folder files
+  unreadable_names = ⊎_elim
+      (λ unread. no_path (λ readable. unread (readable_listed folder files names lists readable)))
+      (λ twice. alike (λ own. twice (same_names (names_below folder files) names lists own)))
+
+  unreadable_file : (listed : List Listing) → IsPermutation (map listing_of names) listed → read_of folder files listed ≡ None → IsUnreadable folder files
+  unreadable_file listed same none =
+      let found = large_in folder files listed none in
+      let from = Contains-map_cases listing_of names found.file (Contains-permutation listed (map listing_of names) found.file (IsPermutation-sym (map listing_of names) listed same) found.member) in
+      let name = ap (λ (f : Listing). f.1) from.2 in
+      too_large found.file.1 found.bytes
+      (Contains-permutation names (names_below folder files) found.file.1 (IsPermutation-sym (names_below folder files) names lists)
+      (subst (λ (l : List ℕ). Contains names l) name from.1))
+      found.has found.large
+
+pub unreadable_names_where_told : (folder : List ℕ) (told : Option Files) (names : List (List ℕ)) →
+    IfSome told (λ files. IsPermutation (names_below folder files) names) → (¬ IsReadable names) ⊎ (¬ HasOwnPaths names) → IfSome told (IsUnreadable folder)
+unreadable_names_where_told folder None names lists why = tt
+unreadable_names_where_told folder (Some files) names lists why = unreadable_names folder files names lists why
+
+pub unreadable_file_where_told : (folder : List ℕ) (told told_then : Option Files) (names : List (List ℕ)) (listed : List Listing) →
+    told_then ≡ told → IfSome told (λ files. IsPermutation (names_below folder files) names) → IsPermutation (map listing_of names) listed →
+    IfSome told_then (λ files. read_of folder files listed ≡ None) → IfSome told (IsUnreadable folder)
+unreadable_file_where_told folder None told_then names listed stays lists same none = tt
+unreadable_file_where_told folder (Some files) told_then names listed stays lists same none =
+    unreadable_file folder files names lists listed same
+    (subst (λ (t : Option Files). IfSome t (λ all. read_of folder all listed ≡ None)) stays none)
 
 -- the same where the tree tells its files, before the listing and at the reads
 pub gathered_where_told : (folder : List ℕ) (told told_then : Option Files) (names : List (List ℕ)) (listed : List Listing) (sources : List Source) →

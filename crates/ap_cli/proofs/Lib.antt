@@ -1,8 +1,11 @@
 pub mod Apart
+pub mod Between
 pub mod Gaining
 pub mod Gathering
 pub mod Laying
+pub mod OneList
 pub mod OneOf
+pub mod OwnPaths
 pub mod Rising
 pub mod Running
 pub mod Sorting

@@ -1,5 +1,5 @@
-pub mod Words
 pub mod Sources
+pub mod Words
 pub mod Listing
 pub mod Steps
 pub mod Layout
@@ -10,6 +10,7 @@ pub mod Output
 pub mod Lines
 pub mod Run
 pub mod Making
+pub mod Unbuilt
 pub mod Refusals
 pub mod CopyBuilder
 pub mod CopyLaws

@@ -1,13 +1,11 @@
 -- The listed files of a folder on their way to its sources.
 use Rattle.std.specs.Prelude.{ℕ, Bool, true, not, ◌&&◌, List, [], ◌∷◌, Option, Some, None, bytes_eq}
-use Rattle.std.specs.List.{AllByRecursion}
 use Rattle.std.specs.Str.{str_to_ascii_lowercase}
 use Rattle.std.specs.declared.cmp.Ordering.{Ordering}
 use Rattle.std.specs.Ordering.{on}
 use Rattle.ap_text.specs.declared.seen.Seen.{Seen}
 use Rattle.ap_text.specs.declared.seen.Seen.TheVariants.{Bytes, Absent, TooLarge}
 use Rattle.ap_text.specs.Order.{bytes_cmp}
-use Rattle.ap_text.specs.PathRules.{IsRelPath}
 use Rattle.ap_tree.specs.Files.{content_at, seen_up_to}
 use Rattle.ap_cli.specs.declared.source.Source.{Source}
 use Rattle.ap_cli.specs.Sources.{Files, in_folder}
@@ -22,10 +20,6 @@ listing_of name = (str_to_ascii_lowercase name, name)
 -- the order of listed files: by path
 abbrev pub listing_cmp : Listing → Listing → Ordering
 listing_cmp = on (λ file. file.0) bytes_cmp
-
--- all names are paths
-abbrev pub IsReadable : List (List ℕ) → Type 0
-IsReadable names = AllByRecursion IsRelPath names
 
 -- the next file has another path
 abbrev pub differs_from_next : Listing → List Listing → Bool

@@ -1,5 +1,7 @@
 -- The status and the line of each refusal.
-use Rattle.std.specs.Prelude.{ℕ, List, [], ◌∷◌, ◌++◌, codes}
+use Rattle.std.specs.Prelude.{◌≡◌, ◌⊎◌, ℕ, List, [], ◌∷◌, ◌++◌, Option, codes}
+use Rattle.ap_tree.specs.Written.{Gains}
+use Rattle.ap_cli.specs.Output.{GainsFront}
 use Rattle.ap_cli.specs.declared.stop.Stop.{Stop}
 use Rattle.ap_cli.specs.declared.stop.Stop.TheVariants.{Usage, Tree, Cache, Output, Memory, Unbuilt}
 
@@ -19,3 +21,10 @@ refusal_line Cache = codes "ap: cache fault" ++ 10 ∷ []
 refusal_line Output = []
 refusal_line Memory = codes "ap: out of memory" ++ 10 ∷ []
 refusal_line Unbuilt = codes "ap: unbuilt" ++ 10 ∷ []
+
+-- a refusal of this status has written its line, whole or, where the sink's count rose, a front of it
+pub record Refuses (status : ℕ) (before now : Option (List ℕ)) (Rose : Type 0) : Type 0 where
+  pub stop : Stop
+  pub status_is : status ≡ status_of stop
+  pub front : GainsFront before now (refusal_line stop)
+  pub whole : Gains before now (refusal_line stop) ⊎ Rose

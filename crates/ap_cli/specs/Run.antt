@@ -1,5 +1,5 @@
 -- What a run of `batch` does.
-use Rattle.std.specs.Prelude.{◌≡◌, ℕ, List, ◌++◌, length, Option, Some}
+use Rattle.std.specs.Prelude.{◌≡◌, ℕ, List, ◌++◌, length, Some}
 use Rattle.ap_builder.specs.declared.entry.Entry.{Entry}
 use Rattle.ap_builder.specs.declared.job.JobDesc.{JobDesc}
 use Rattle.ap_builder.specs.declared.offer.Offer.{Offer}
@@ -7,14 +7,11 @@ use Rattle.ap_builder.specs.declared.work.CreateInput.{CreateInput}
 use Rattle.ap_builder.specs.declared.work.CreateAnswer.{CreateAnswer}
 use Rattle.ap_builder.specs.declared.work.JobInput.{JobInput}
 use Rattle.ap_builder.specs.declared.work.Outcome.{Outcome}
-use Rattle.ap_tree.specs.Changes.{TellsAs}
-use Rattle.ap_tree.specs.Written.{Gains}
 use Rattle.ap_cli.specs.declared.report.Counts.{Counts}
 use Rattle.ap_cli.specs.declared.source.Source.{Source}
 use Rattle.ap_cli.specs.Sources.{Files, AreSources}
 use Rattle.ap_cli.specs.Layout.{AreApart}
 use Rattle.ap_cli.specs.Lines.{report_lem}
-use Rattle.ap_cli.specs.Overlay.{Overlays}
 use Rattle.ap_cli.specs.Work.{copy_name, version_of, jobs_of, files_of, create_entries, process_entries}
 
 -- what each source is asked for: first a create of each, then a process of each
@@ -39,8 +36,8 @@ pub record IsWork (creates : List ℕ → CreateInput → CreateAnswer) (makes :
   pub made : files_of makes sources jobs ≡ Some put
   pub apart : AreApart put
 
--- a run to its end: the sources are the folder's files, the bench gained a create and then a process of each, the cache has the products over what it had, and the sink has taken the report
-pub record Ran (creates : List ℕ → CreateInput → CreateAnswer) (makes : JobInput → Outcome) (offers : List Offer) (folder : List ℕ) (files : Files) (bench bench' : List Entry) (cache cache' : Option Files) (out out' : Option (List ℕ)) : Type 0 where
+-- what a run has asked for and made: the sources are the folder's files, the bench gained a create and then a process of each; what holds of the cache by the products, and of the sink by the report
+pub record Ran (creates : List ℕ → CreateInput → CreateAnswer) (makes : JobInput → Outcome) (offers : List Offer) (folder : List ℕ) (files : Files) (bench bench' : List Entry) (Laid : Files → Type 0) (Told : List ℕ → Type 0) : Type 0 where
   pub version : ℕ
   pub offered : version_of offers copy_name ≡ Some version
   pub sources : List Source
@@ -49,5 +46,5 @@ pub record Ran (creates : List ℕ → CreateInput → CreateAnswer) (makes : Jo
   pub put : Files
   pub work : IsWork creates makes version sources jobs put
   pub asked : bench' ≡ bench ++ entries_of sources jobs
-  pub laid : TellsAs cache cache' (Overlays put)
-  pub told : Gains out out' (report_lem (entries_of sources jobs) (counts_of sources jobs put))
+  pub laid : Laid put
+  pub told : Told (report_lem (entries_of sources jobs) (counts_of sources jobs put))

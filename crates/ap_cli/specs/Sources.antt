@@ -1,5 +1,6 @@
 -- The sources of a folder.
-use Rattle.std.specs.Prelude.{◌≡◌, ◌≤◌, ℕ, List, ◌∷◌, ◌++◌, length, Contains, Some}
+use Rattle.std.specs.Prelude.{◌≡◌, ◌≤◌, ℕ, List, ◌∷◌, ◌++◌, length, map, Contains, Some, bytes_eq}
+use Rattle.std.specs.List.{AllByRecursion, IsDistinct}
 use Rattle.std.specs.Str.{str_to_ascii_lowercase}
 use Rattle.std.specs.declared.cmp.Ordering.{Ordering}
 use Rattle.std.specs.Ordering.{on}
@@ -26,8 +27,17 @@ pub record IsSource (folder : List ℕ) (files : Files) (source : Source) : Type
 abbrev pub source_cmp : Source → Source → Ordering
 source_cmp = on (λ source. source.path) bytes_cmp
 
--- all files of the folder by path, where each name is a path and each file has at most 4,194,304 bytes
+-- all names are paths
+abbrev pub IsReadable : List (List ℕ) → Type 0
+IsReadable names = AllByRecursion IsRelPath names
+
+-- no two names fold alike
+abbrev pub HasOwnPaths : List (List ℕ) → Type 0
+HasOwnPaths names = IsDistinct bytes_eq (map str_to_ascii_lowercase names)
+
+-- all files of the folder by path, where each name is a path, no two fold alike, and each file has at most 4,194,304 bytes
 pub record AreSources (folder : List ℕ) (files : Files) (sources : List Source) : Type 0 where
-  pub readable : (name : List ℕ) → Contains (names_below folder files) name → IsRelPath name
+  pub readable : IsReadable (names_below folder files)
+  pub own : HasOwnPaths (names_below folder files)
   pub small : (name bytes : List ℕ) → Contains (names_below folder files) name → content_at files (in_folder folder name) ≡ Some bytes → length bytes ≤ 4194304
   pub lists : Lists source_cmp (IsSource folder files) sources

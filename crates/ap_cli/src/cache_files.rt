@@ -2,7 +2,7 @@ ghost use Rattle.std.specs.Prelude.{◌≡◌, ◌≤◌, ◌⊎◌, true, IfErr
 ghost use Rattle.ap_text.specs.Causes.{Rose};
 ghost use Rattle.ap_tree.specs.Files.{has_distinct_paths};
 ghost use Rattle.ap_tree.specs.Changes.{TellsAs};
-ghost use Rattle.ap_cli.specs.Overlay.{Overlays};
+ghost use Rattle.ap_cli.specs.Overlay.{Overlays, LaidAllButOne};
 ghost use Rattle.ap_cli.specs.declared.stop.Stop.TheVariants.{Cache, Memory};
 
 use crate::stop::Stop;
@@ -18,6 +18,7 @@ pub(crate) fn write_all<C: CacheDir>(
 ) -> Result<(), Stop>
     requires { has_distinct_paths files.now ≡ true }
     ensures put { OnOk result (TellsAs (C.files cache.old) (C.files cache.new) (Overlays files.now)) }
+    ensures partly { IfErr result (λ stop. stop ≡ Cache → TellsAs (C.files cache.old) (C.files cache.new) (LaidAllButOne files.now)) }
     ensures cause { IfErr result (λ stop. stop ≡ Cache → Rose (C.faults cache.old) (C.faults cache.new)) }
     ensures only { IfErr result (λ stop. (stop ≡ Memory) ⊎ (stop ≡ Cache)) }
     ensures later { C.faults cache.old ≤ C.faults cache.new }

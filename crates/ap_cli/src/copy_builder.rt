@@ -1,9 +1,9 @@
 ghost use Rattle.std.specs.Prelude.{◌≡◌, map, IfOk};
 ghost use Rattle.std.specs.Str.{str_to_ascii_lowercase};
 ghost use Rattle.ap_text.specs.PathRules.{file_name_lem};
-ghost use Rattle.ap_cli.specs.Work.{copy_name};
 ghost use Rattle.ap_cli.specs.CopyBuilder.{copy_offers, copy_declares, copy_creates, copy_makes, copy_job, copy_product, version_in_lem};
 
+use crate::names;
 use ap_builder::{
     Builders, CreateAnswer, CreateInput, JobDesc, JobInput, LegacyRow, Offer, Outcome, Permit,
     Product, Target,
@@ -46,7 +46,7 @@ impl Builders for CopyBuilder {
     fn offers(&self, alloc: Global) -> Result<Vec<Offer>, OutOfMemory> {
         let patterns = vec![in alloc; Bytes::of(b"*".to_vec(alloc)?)]?;
         let offer = Offer {
-            name: copy(alloc)?,
+            name: names::copy(alloc)?,
             patterns: List::of(patterns),
             version: 1,
         };
@@ -92,15 +92,6 @@ impl Builders for CopyBuilder {
     }
 }
 
-fn copy(alloc: Global) -> Result<Name, OutOfMemory>
-    ensures { IfOk result (λ name. name ≡ copy_name) }
-{
-    match Name::read(alloc, b"copy") {
-        Ok(name) => Ok(name),
-        Err(_) => Err(OutOfMemory),
-    }
-}
-
 /// One job for each platform.
 fn jobs_for(alloc: Global, builder: &Name, input: &CreateInput) -> Result<Vec<JobDesc>, OutOfMemory>
     ensures { IfOk result (λ jobs. jobs.items ≡ map (copy_job builder.now input.now) input.now.platforms) }
@@ -126,7 +117,7 @@ fn job_for(
         builder: builder.copy(alloc)?,
         version: version_in(input.builders.as_slice(), builder),
         platform: platform.copy(alloc)?,
-        key: copy(alloc)?,
+        key: names::copy(alloc)?,
         priority: 0,
         params: Bytes::of(Vec::new(alloc)),
         deps: List::of(Vec::new(alloc)),
@@ -153,7 +144,7 @@ fn product_of(alloc: Global, input: &JobInput) -> Result<Product, OutOfMemory>
 {
     Ok(Product {
         name: file_name(alloc, &input.path)?,
-        kind: copy(alloc)?,
+        kind: names::copy(alloc)?,
         sub: 0,
         bytes: input.bytes.copy(alloc)?,
         refs: List::of(Vec::new(alloc)),

@@ -1,13 +1,14 @@
 ghost use Rattle.std.specs.Prelude.{◌≡◌, ◌⊎◌, ◌++◌, ◌∷◌, [], IsTrue, IfOk, IfErr, OnOk, Some, None};
 ghost use Rattle.ap_builder.specs.Offers.{is_offered};
 ghost use Rattle.ap_builder.specs.declared.entry.Entry.TheVariants.{Create};
-ghost use Rattle.ap_cli.specs.Work.{copy_name, pc_name, create_input, only_job, jobs_of, create_entries};
+ghost use Rattle.ap_cli.specs.Work.{copy_name, create_input, only_job, jobs_of, create_entries};
 ghost use Rattle.ap_cli.specs.declared.stop.Stop.TheVariants.{Memory, Unbuilt};
 
+use crate::names;
 use crate::source::Source;
 use crate::stop::Stop;
 use ap_builder::{Bench, Builders, CreateAnswer, CreateInput, Entry, JobDesc};
-use ap_text::{List, Name, OutOfMemory, Platform};
+use ap_text::{List, Name, OutOfMemory};
 use std::alloc::Global;
 
 /// Asks `copy` for the job of each source, in their order.
@@ -74,21 +75,11 @@ fn input_of(
 {
     Ok(CreateInput {
         builders: List::of(vec![in alloc; (copy.copy(alloc)?, version)]?),
-        platforms: List::of(vec![in alloc; pc(alloc)?]?),
+        platforms: List::of(vec![in alloc; names::pc(alloc)?]?),
         path: source.path.copy(alloc)?,
         bytes: source.bytes.copy(alloc)?,
         reached: List::of(Vec::new(alloc)),
     })
-}
-
-/// The platform that all products are made for.
-fn pc(alloc: Global) -> Result<Platform, OutOfMemory>
-    ensures { IfOk result (λ platform. platform ≡ pc_name) }
-{
-    match Platform::read(alloc, b"pc") {
-        Ok(platform) => Ok(platform),
-        Err(_) => Err(OutOfMemory),
-    }
 }
 
 /// The one job of an answer that depends on nothing.

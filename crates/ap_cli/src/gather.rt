@@ -3,8 +3,9 @@ ghost use Rattle.std.specs.List.Sorted.{IsStrictlySortedBy};
 ghost use Rattle.ap_text.specs.Causes.{Rose};
 ghost use Rattle.ap_text.specs.PathRules.{IsRelPath};
 ghost use Rattle.ap_tree.specs.Files.{content_at, seen_up_to};
-ghost use Rattle.ap_cli.specs.Sources.{AreSources, in_folder};
-ghost use Rattle.ap_cli.specs.Listing.{listing_of, listing_cmp, read_of, has_new_paths, IsReadable};
+ghost use Rattle.ap_cli.specs.Sources.{AreSources, IsReadable, HasOwnPaths, in_folder};
+ghost use Rattle.ap_cli.specs.Listing.{listing_of, listing_cmp, read_of, has_new_paths};
+ghost use Rattle.ap_cli.specs.Unbuilt.{IsUnreadable};
 ghost use Rattle.ap_cli.specs.declared.stop.Stop.TheVariants.{Tree as TreeStop, Memory, Unbuilt};
 
 use crate::source::Source;
@@ -20,6 +21,7 @@ pub(crate) fn gather<T: Tree>(
     folder: &RelPath,
 ) -> Result<Vec<Source>, Stop>
     ensures sources { IfOk result (λ sources. IfSome (T.files tree.old) (λ files. AreSources folder.now files sources.items)) }
+    ensures unbuilt { IfErr result (λ stop. stop ≡ Unbuilt → IfSome (T.files tree.old) (IsUnreadable folder.now)) }
     ensures cause { IfErr result (λ stop. stop ≡ TreeStop → Rose (T.faults tree.old) (T.faults tree.new)) }
     ensures only { IfErr result (λ stop. (stop ≡ Memory) ⊎ (stop ≡ TreeStop) ⊎ (stop ≡ Unbuilt)) }
     ensures same { T.files tree.new ≡ T.files tree.old }
@@ -29,8 +31,14 @@ pub(crate) fn gather<T: Tree>(
         Ok(names) => names,
         Err(fault) => return Err(stop_of(fault)),
     };
-    let listed = in_order(alloc, &names)?;
-    let sources = read_all(alloc, tree, folder, &listed)?;
+    let listed = match in_order(alloc, &names) {
+        Ok(listed) => listed,
+        Err(stop) => return Err(stop),
+    };
+    let sources = match read_all(alloc, tree, folder, &listed) {
+        Ok(sources) => sources,
+        Err(stop) => return Err(stop),
+    };
     Ok(sources)
 }
 
@@ -49,9 +57,13 @@ fn in_order(alloc: Global, names: &[Bytes]) -> Result<Vec<(RelPath, RelPath)>, S
     ensures readable { IfOk result (λ _. IsReadable names.now) }
     ensures same { IfOk result (λ listed. IsPermutation (map listing_of names.now) listed.items) }
     ensures rises { IfOk result (λ listed. IsStrictlySortedBy listing_cmp listed.items) }
+    ensures unbuilt { IfErr result (λ stop. stop ≡ Unbuilt → (¬ IsReadable names.now) ⊎ (¬ HasOwnPaths names.now)) }
     ensures only { IfErr result (λ stop. (stop ≡ Memory) ⊎ (stop ≡ Unbuilt)) }
 {
-    let mut listed = fold_all(alloc, names)?;
+    let mut listed = match fold_all(alloc, names) {
+        Ok(listed) => listed,
+        Err(stop) => return Err(stop),
+    };
     listed.sort_unstable();
     if !differ(&listed) {
         return Err(Stop::Unbuilt);
@@ -63,6 +75,7 @@ fn in_order(alloc: Global, names: &[Bytes]) -> Result<Vec<(RelPath, RelPath)>, S
 fn fold_all(alloc: Global, names: &[Bytes]) -> Result<Vec<(RelPath, RelPath)>, Stop>
     ensures readable { IfOk result (λ _. IsReadable names.now) }
     ensures same { IfOk result (λ listed. listed.items ≡ map listing_of names.now) }
+    ensures unbuilt { IfErr result (λ stop. stop ≡ Unbuilt → ¬ IsReadable names.now) }
     ensures only { IfErr result (λ stop. (stop ≡ Memory) ⊎ (stop ≡ Unbuilt)) }
 {
     let mut listed = Vec::new(alloc);
@@ -112,6 +125,7 @@ fn read_all<T: Tree>(
     listed: &[(RelPath, RelPath)],
 ) -> Result<Vec<Source>, Stop>
     ensures read { IfOk result (λ sources. IfSome (T.files tree.old) (λ files. read_of folder.now files listed.now ≡ Some sources.items)) }
+    ensures unbuilt { IfErr result (λ stop. stop ≡ Unbuilt → IfSome (T.files tree.old) (λ files. read_of folder.now files listed.now ≡ None)) }
     ensures cause { IfErr result (λ stop. stop ≡ TreeStop → Rose (T.faults tree.old) (T.faults tree.new)) }
     ensures only { IfErr result (λ stop. (stop ≡ Memory) ⊎ (stop ≡ TreeStop) ⊎ (stop ≡ Unbuilt)) }
     ensures same { T.files tree.new ≡ T.files tree.old }

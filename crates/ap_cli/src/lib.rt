@@ -8,9 +8,11 @@ mod conflicts;
 mod copy_builder;
 mod create;
 mod gather;
+mod in_memory;
 mod layout;
 mod made;
 mod make;
+mod names;
 mod output;
 mod process;
 mod report;
@@ -22,4 +24,5 @@ mod top;
 mod words;
 
 pub use copy_builder::{CopyBuilder, CopyPass};
+pub use in_memory::run_in_memory;
 pub use top::run;

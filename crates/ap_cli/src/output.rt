@@ -1,4 +1,4 @@
-ghost use Rattle.std.specs.Prelude.{◌≡◌, ◌≤◌, IfErr, OnOk, OnErr};
+ghost use Rattle.std.specs.Prelude.{◌≡◌, ◌≤◌, ◌<◌, length, IfErr, OnOk, OnErr};
 ghost use Rattle.ap_text.specs.Causes.{Rose};
 ghost use Rattle.ap_tree.specs.Written.{Gains};
 ghost use Rattle.ap_cli.specs.Output.{GainsFront};
@@ -11,6 +11,7 @@ use ap_tree::Sink;
 pub(crate) fn write_text<O: Sink>(out: &mut O, text: &[u8]) -> Result<(), Stop>
     ensures whole { OnOk result (Gains (O.written out.old) (O.written out.new) text.now) }
     ensures front { OnErr result (GainsFront (O.written out.old) (O.written out.new) text.now) }
+    ensures short { OnErr result (O.room out.old < length text.now) }
     ensures cause { OnErr result (Rose (O.faults out.old) (O.faults out.new)) }
     ensures stop { IfErr result (λ stop. stop ≡ Output) }
     ensures later { O.faults out.old ≤ O.faults out.new }

@@ -1,8 +1,11 @@
-use crate::{CopyBuilder, CopyPass, run};
+use crate::{CopyBuilder, CopyPass, run, run_in_memory};
 use ap_builder::Bench;
 use ap_disk::{Pair, SureMemoryDisk};
 use ap_text::Bytes;
-use ap_tree::{SureMemoryCache, SureMemorySink, SureMemoryTree, are_distinct};
+use ap_tree::{
+    MemoryCache, MemorySink, MemoryTree, SureMemoryCache, SureMemorySink, SureMemoryTree,
+    are_distinct,
+};
 use std::alloc::Global;
 use std::process::Abort;
 use std::test::Fail;
@@ -16,6 +19,22 @@ struct Left {
     entries: usize,
 }
 
+/// The calls that fail of each object, by their numbers.
+#[derive(Clone, Copy)]
+struct Failing {
+    tree: Option<u64>,
+    cache: Option<u64>,
+    sink: Option<u64>,
+}
+
+fn listed(alloc: Global, number: Option<u64>) -> Result<Vec<u64>, Fail> {
+    let mut numbers = Vec::new(alloc);
+    if let Some(number) = number {
+        numbers.push(number)?;
+    }
+    Ok(numbers)
+}
+
 fn owned(alloc: Global, files: &[(&str, &str)]) -> Result<Vec<(Bytes, Bytes)>, Fail> {
     let mut all = Vec::new(alloc);
     for (path, bytes) in files {
@@ -26,31 +45,37 @@ fn owned(alloc: Global, files: &[(&str, &str)]) -> Result<Vec<(Bytes, Bytes)>, F
     Ok(all)
 }
 
+fn spoken(alloc: Global, words: &[&str]) -> Result<Vec<String>, Fail> {
+    let mut all = Vec::new(alloc);
+    for word in words {
+        all.push(String::from_str(alloc, word)?)?;
+    }
+    Ok(all)
+}
+
 fn left_by(
     rt: &(impl Abort + AllocGlobal),
     words: &[&str],
     tree: &[(&str, &str)],
     cache: &[(&str, &str)],
+    failing: &Failing,
 ) -> Result<Left, Fail> {
     let alloc = rt.alloc();
-    let mut all_words = Vec::new(alloc);
-    for word in words {
-        all_words.push(String::from_str(alloc, word)?)?;
-    }
+    let words = spoken(alloc, words)?;
     let sources = owned(alloc, tree)?;
     assert!(rt; are_distinct(&sources));
     let held = owned(alloc, cache)?;
     assert!(rt; are_distinct(&held));
-    let mut tree = SureMemoryTree::of(sources);
-    let mut cache = SureMemoryCache::of(held);
+    let mut tree = MemoryTree::of(sources, listed(alloc, failing.tree)?);
+    let mut cache = MemoryCache::of(held, listed(alloc, failing.cache)?);
     let a = SureMemoryDisk::new(vec![in alloc; 0u8; 17]?, 0);
     let b = SureMemoryDisk::new(vec![in alloc; 0u8; 17]?, 0);
     let mut store = Pair::new(a, b);
     let mut bench = Bench::new(alloc, CopyPass);
-    let mut out = SureMemorySink::new(vec![in alloc; 0u8; 4096]?);
+    let mut out = MemorySink::new(vec![in alloc; 0u8; 4096]?, listed(alloc, failing.sink)?);
     let status = run(
         alloc,
-        &all_words,
+        &words,
         &mut tree,
         &mut cache,
         &mut store,
@@ -72,11 +97,12 @@ fn left_by(
     })
 }
 
-/// A command line over a folder of the tree, and what comes of it.
+/// A command line over a folder of the tree, with the calls that fail, and what comes of it.
 #[derive(Drop)]
 struct Row {
     words: &'static [&'static str],
     tree: &'static [(&'static str, &'static str)],
+    failing: Failing,
     status: u8,
     output: &'static str,
     cache: &'static [(&'static str, &'static str)],
@@ -86,29 +112,48 @@ struct Row {
 const USAGE: &str =
     "ap: usage: ap batch CONFIG [--jobs N], ap serve CONFIG PORT, ap catalog PLATFORM ASSET, ap soak N\n";
 
+const REPORT: &str =
+    "create copy a.txt\ncreate copy b/c.bin\nprocess pc copy a.txt\nprocess pc copy b/c.bin\nsources 2 jobs 2 done 2 published 2 shadowed 0 wrote 2 removed 0\nok\n";
+
+const TWO: &[(&str, &str)] = &[
+    ("game/b/C.bin", "22"),
+    ("game/A.txt", "1\n"),
+    ("gamer/no.txt", ""),
+];
+
 const HELD: &[(&str, &str)] = &[("pc/a.txt", "stale"), ("pc/other.bin", "kept")];
 
-fn rows() -> [Row; 9] {
+const MADE: &[(&str, &str)] = &[
+    ("pc/a.txt", "1\n"),
+    ("pc/other.bin", "kept"),
+    ("pc/b/c.bin", "22"),
+];
+
+const HALF_MADE: &[(&str, &str)] = &[("pc/a.txt", "1\n"), ("pc/other.bin", "kept")];
+
+fn rows_of_words() -> [Row; 9] {
     [
         Row {
             words: &["batch", "game"],
-            tree: &[
-                ("game/b/C.bin", "22"),
-                ("game/A.txt", "1\n"),
-                ("gamer/no.txt", ""),
-            ],
+            tree: TWO,
+            failing: Failing {
+                tree: None,
+                cache: None,
+                sink: None,
+            },
             status: 0,
-            output: "create copy a.txt\ncreate copy b/c.bin\nprocess pc copy a.txt\nprocess pc copy b/c.bin\nsources 2 jobs 2 done 2 published 2 shadowed 0 wrote 2 removed 0\nok\n",
-            cache: &[
-                ("pc/a.txt", "1\n"),
-                ("pc/other.bin", "kept"),
-                ("pc/b/c.bin", "22"),
-            ],
+            output: REPORT,
+            cache: MADE,
             entries: 4,
         },
         Row {
             words: &["batch", "nothing"],
-            tree: &[("game/a.txt", "1")],
+            tree: TWO,
+            failing: Failing {
+                tree: None,
+                cache: None,
+                sink: None,
+            },
             status: 0,
             output: "sources 0 jobs 0 done 0 published 0 shadowed 0 wrote 0 removed 0\nok\n",
             cache: HELD,
@@ -117,6 +162,11 @@ fn rows() -> [Row; 9] {
         Row {
             words: &["batch", "game"],
             tree: &[("game/A.txt", "1"), ("game/a.txt", "1")],
+            failing: Failing {
+                tree: None,
+                cache: None,
+                sink: None,
+            },
             status: 13,
             output: "ap: unbuilt\n",
             cache: HELD,
@@ -125,6 +175,11 @@ fn rows() -> [Row; 9] {
         Row {
             words: &["batch", "game"],
             tree: &[("game/a\\b", "1")],
+            failing: Failing {
+                tree: None,
+                cache: None,
+                sink: None,
+            },
             status: 13,
             output: "ap: unbuilt\n",
             cache: HELD,
@@ -133,6 +188,11 @@ fn rows() -> [Row; 9] {
         Row {
             words: &[],
             tree: &[],
+            failing: Failing {
+                tree: None,
+                cache: None,
+                sink: None,
+            },
             status: 2,
             output: USAGE,
             cache: HELD,
@@ -141,6 +201,11 @@ fn rows() -> [Row; 9] {
         Row {
             words: &["batch"],
             tree: &[],
+            failing: Failing {
+                tree: None,
+                cache: None,
+                sink: None,
+            },
             status: 2,
             output: USAGE,
             cache: HELD,
@@ -149,6 +214,11 @@ fn rows() -> [Row; 9] {
         Row {
             words: &["batch", "game", "--jobs"],
             tree: &[],
+            failing: Failing {
+                tree: None,
+                cache: None,
+                sink: None,
+            },
             status: 2,
             output: USAGE,
             cache: HELD,
@@ -157,6 +227,11 @@ fn rows() -> [Row; 9] {
         Row {
             words: &["batch", "../game"],
             tree: &[],
+            failing: Failing {
+                tree: None,
+                cache: None,
+                sink: None,
+            },
             status: 2,
             output: USAGE,
             cache: HELD,
@@ -165,8 +240,148 @@ fn rows() -> [Row; 9] {
         Row {
             words: &["soak", "1"],
             tree: &[],
+            failing: Failing {
+                tree: None,
+                cache: None,
+                sink: None,
+            },
             status: 2,
             output: USAGE,
+            cache: HELD,
+            entries: 0,
+        },
+    ]
+}
+
+fn rows_of_faults() -> [Row; 10] {
+    [
+        Row {
+            words: &["batch", "game"],
+            tree: TWO,
+            failing: Failing {
+                tree: Some(1),
+                cache: None,
+                sink: None,
+            },
+            status: 4,
+            output: "ap: tree fault\n",
+            cache: HELD,
+            entries: 0,
+        },
+        Row {
+            words: &["batch", "game"],
+            tree: TWO,
+            failing: Failing {
+                tree: Some(2),
+                cache: None,
+                sink: None,
+            },
+            status: 4,
+            output: "ap: tree fault\n",
+            cache: HELD,
+            entries: 0,
+        },
+        Row {
+            words: &["batch", "game"],
+            tree: TWO,
+            failing: Failing {
+                tree: Some(3),
+                cache: None,
+                sink: None,
+            },
+            status: 4,
+            output: "ap: tree fault\n",
+            cache: HELD,
+            entries: 0,
+        },
+        Row {
+            words: &["batch", "game"],
+            tree: TWO,
+            failing: Failing {
+                tree: Some(4),
+                cache: None,
+                sink: None,
+            },
+            status: 0,
+            output: REPORT,
+            cache: MADE,
+            entries: 4,
+        },
+        Row {
+            words: &["batch", "game"],
+            tree: TWO,
+            failing: Failing {
+                tree: None,
+                cache: Some(1),
+                sink: None,
+            },
+            status: 5,
+            output: "ap: cache fault\n",
+            cache: HELD,
+            entries: 4,
+        },
+        Row {
+            words: &["batch", "game"],
+            tree: TWO,
+            failing: Failing {
+                tree: None,
+                cache: Some(2),
+                sink: None,
+            },
+            status: 5,
+            output: "ap: cache fault\n",
+            cache: HALF_MADE,
+            entries: 4,
+        },
+        Row {
+            words: &["batch", "game"],
+            tree: TWO,
+            failing: Failing {
+                tree: None,
+                cache: Some(3),
+                sink: None,
+            },
+            status: 0,
+            output: REPORT,
+            cache: MADE,
+            entries: 4,
+        },
+        Row {
+            words: &["batch", "game"],
+            tree: TWO,
+            failing: Failing {
+                tree: None,
+                cache: None,
+                sink: Some(1),
+            },
+            status: 7,
+            output: "",
+            cache: MADE,
+            entries: 4,
+        },
+        Row {
+            words: &["batch", "game"],
+            tree: TWO,
+            failing: Failing {
+                tree: None,
+                cache: None,
+                sink: Some(2),
+            },
+            status: 0,
+            output: REPORT,
+            cache: MADE,
+            entries: 4,
+        },
+        Row {
+            words: &["soak", "1"],
+            tree: TWO,
+            failing: Failing {
+                tree: None,
+                cache: None,
+                sink: Some(1),
+            },
+            status: 2,
+            output: "",
             cache: HELD,
             entries: 0,
         },
@@ -185,18 +400,71 @@ fn has_files(files: &[(Bytes, Bytes)], wanted: &[(&str, &str)]) -> bool {
     true
 }
 
+fn meets(rt: &(impl Abort + AllocGlobal), row: &Row) -> Result<(), Fail> {
+    let words = row.words;
+    let (tree, cache, sink) = (row.failing.tree, row.failing.cache, row.failing.sink);
+    let left = left_by(rt, words, row.tree, HELD, &row.failing)?;
+    let status = left.status;
+    assert!(rt;
+        status == row.status,
+        "{words:?} failing {tree:?} {cache:?} {sink:?}: {status}"
+    );
+    assert!(rt;
+        left.output.as_slice() == row.output.as_bytes(),
+        "{words:?} failing {tree:?} {cache:?} {sink:?}"
+    );
+    assert!(rt;
+        has_files(&left.cache, row.cache),
+        "{words:?} failing {tree:?} {cache:?} {sink:?}"
+    );
+    assert!(rt;
+        left.entries == row.entries,
+        "{words:?} failing {tree:?} {cache:?} {sink:?}"
+    );
+    Ok(())
+}
+
 #[test]
 fn runs_answer_by_their_words_and_files(rt: HostRuntime) -> Result<(), Fail> {
-    for row in rows() {
-        let words = row.words;
-        let left = left_by(&rt, words, row.tree, HELD)?;
-        assert!(rt; left.status == row.status, "{words:?}");
-        assert!(rt;
-            left.output.as_slice() == row.output.as_bytes(),
-            "{words:?}"
-        );
-        assert!(rt; has_files(&left.cache, row.cache), "{words:?}");
-        assert!(rt; left.entries == row.entries, "{words:?}");
+    for row in rows_of_words() {
+        meets(&rt, &row)?;
     }
+    Ok(())
+}
+
+#[test]
+fn runs_meet_each_fault(rt: HostRuntime) -> Result<(), Fail> {
+    for row in rows_of_faults() {
+        meets(&rt, &row)?;
+    }
+    Ok(())
+}
+
+#[test]
+fn forms_that_never_fail_meet_no_fault(rt: HostRuntime) -> Result<(), Fail> {
+    let alloc = rt.alloc();
+    let words = spoken(alloc, &["batch", "game"])?;
+    let sources = owned(alloc, TWO)?;
+    assert!(rt; are_distinct(&sources));
+    let mut tree = SureMemoryTree::of(sources);
+    let mut cache = SureMemoryCache::of(Vec::new(alloc));
+    let a = SureMemoryDisk::new(vec![in alloc; 0u8; 17]?, 0);
+    let b = SureMemoryDisk::new(vec![in alloc; 0u8; 17]?, 0);
+    let mut store = Pair::new(a, b);
+    let mut bench = Bench::new(alloc, CopyPass);
+    let mut out = SureMemorySink::new(vec![in alloc; 0u8; 4096]?);
+    let status = run_in_memory(
+        alloc,
+        &words,
+        &mut tree,
+        &mut cache,
+        &mut store,
+        &CopyBuilder,
+        &mut bench,
+        &mut out,
+    );
+    assert!(rt; status == 0);
+    assert!(rt; out.written() == REPORT.as_bytes());
+    assert!(rt; has_files(cache.files(), &[("pc/a.txt", "1\n"), ("pc/b/c.bin", "22")]));
     Ok(())
 }
