@@ -1,0 +1,4 @@
+pub mod Walks
+pub mod Grammars
+pub mod Repeats
+pub mod Parsing

@@ -1,0 +1,10 @@
+pub mod Members
+pub mod Indexing
+pub mod Totals
+pub mod Listing
+pub mod Seeing
+pub mod Tidying
+pub mod Linking
+pub mod Changing
+pub mod TakingOut
+pub mod Adding

@@ -1,0 +1,14 @@
+pub mod Members
+pub mod RowFacts
+pub mod ChainFacts
+pub mod Searching
+pub mod Ordering
+pub mod Parting
+pub mod Contests
+pub mod IdOrder
+pub mod Holding
+pub mod Releasing
+pub mod Graphs
+pub mod Knowing
+pub mod CycleTest
+pub mod Examples

@@ -1,0 +1,11 @@
+-- Chains of steps, each from a value to one of those that it leads to.
+use Rattle.std.specs.Prelude.{◌≡◌, ◌⊎◌, List, Contains}
+
+-- a chain of one or more steps leads from a to b
+pub data Chain {X : Type 0} (next : X → List X) : X → X → Type 0 where
+  step : {a b : X} → Contains (next a) b → Chain next a b
+  through : {a b c : X} → Contains (next a) b → Chain next b c → Chain next a c
+
+-- a chain of any number of steps, none too
+abbrev pub Reaches : {X : Type 0} → (X → List X) → X → X → Type 0
+Reaches next a b = (a ≡ b) ⊎ Chain next a b

@@ -1,0 +1,11 @@
+pub mod Chain
+pub mod Rows
+pub mod Groups
+pub mod Visits
+pub mod Contest
+pub mod Ids
+pub mod Waits
+pub mod Nodes
+pub mod Jobs
+pub mod Places
+pub mod Held

@@ -1,0 +1,9 @@
+pub mod Between
+pub mod Told
+pub mod Files
+pub mod Standing
+pub mod Laid
+pub mod Committing
+pub mod Heads
+pub mod Places
+pub mod Appending

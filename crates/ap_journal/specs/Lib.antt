@@ -1,0 +1,4 @@
+pub mod Records
+pub mod Moments
+pub mod Changes
+pub mod State
