@@ -4,7 +4,7 @@ use Rattle.std.proofs.lemmas.List.{length-drop, length-take-le, append-nil}
 use Rattle.std.specs.Int.{w32, from_be_bytes}
 use Rattle.ap_disk.specs.Calls.{Reads}
 use Rattle.ap_journal.specs.Records.{split_payload, first_record}
-use Rattle.ap_journal.specs.State.{first_length}
+use Rattle.ap_journal.specs.State.{length_of}
 
 -- the head of a record by its five bytes
 record Head (bytes read : List ℕ) : Type 0 where
@@ -25,7 +25,7 @@ head_of (g ∷ a ∷ b ∷ []) read long is = absurd (omega (arith, long))
 head_of (g ∷ a ∷ b ∷ c ∷ []) read long is = absurd (omega (arith, long))
 head_of (g ∷ a ∷ b ∷ c ∷ d ∷ rest) read long is = record { gate = g; a = a; b = b; c = c; d = d; rest = rest; is = refl; was_read = is }
 
-few : (bytes : List ℕ) → length bytes < 5 → None ≡ first_length (first_record bytes)
+few : (bytes : List ℕ) → length bytes < 5 → None ≡ length_of (first_record bytes)
 unfolding first_record
 few [] lt = refl
 few (g ∷ []) lt = refl
@@ -38,12 +38,12 @@ few (g ∷ a ∷ b ∷ c ∷ d ∷ rest) lt = absurd (omega (arith, lt))
 abbrev pub said : List ℕ → ℕ
 said read = from_be_bytes w32 (get_or read 1 0 ∷ get_or read 2 0 ∷ get_or read 3 0 ∷ get_or read 4 0 ∷ [])
 
-shut : (bytes read : List ℕ) → Head bytes read → (get_or read 0 0 ≡ 1 → ⊥) → None ≡ first_length (first_record bytes)
+shut : (bytes read : List ℕ) → Head bytes read → (get_or read 0 0 ≡ 1 → ⊥) → None ≡ length_of (first_record bytes)
 unfolding first_record
 shut bytes read h closed =
     let gate : h.gate ≡ 1 → ⊥ = λ one. closed (ap (λ (l : List ℕ). get_or l 0 0) h.was_read ∙ one) in
     let no : (h.gate == 1) ≡ false = grind (arith, gate) in
-    sym (ap (λ (l : List ℕ). first_length (first_record l)) h.is ∙ ap (λ (t : Bool). first_length (if t then split_payload (from_be_bytes w32 (h.a ∷ h.b ∷ h.c ∷ h.d ∷ [])) h.rest else None)) no)
+    sym (ap (λ (l : List ℕ). length_of (first_record l)) h.is ∙ ap (λ (t : Bool). length_of (if t then split_payload (from_be_bytes w32 (h.a ∷ h.b ∷ h.c ∷ h.d ∷ [])) h.rest else None)) no)
 
 wide_open : (bytes read : List ℕ) (h : Head bytes read) → get_or read 0 0 ≡ 1 → first_record bytes ≡ split_payload (said read) h.rest
 unfolding first_record
@@ -54,16 +54,16 @@ wide_open bytes read h gate =
 rest_length : (bytes read : List ℕ) (h : Head bytes read) → length bytes ≡ 5 + length h.rest
 rest_length bytes read h = omega (arith, ap length h.is)
 
-beyond : (bytes read : List ℕ) (h : Head bytes read) → get_or read 0 0 ≡ 1 → length bytes ≤ 5 + said read → None ≡ first_length (first_record bytes)
+beyond : (bytes read : List ℕ) (h : Head bytes read) → get_or read 0 0 ≡ 1 → length bytes ≤ 5 + said read → None ≡ length_of (first_record bytes)
 beyond bytes read h gate le =
     let no : nat_lt (said read) (length h.rest) ≡ false = grind (arith, le, rest_length bytes read h) in
-    sym (ap first_length (wide_open bytes read h gate ∙ ap (λ (t : Bool). if t then Some (take (said read) h.rest, drop (said read) h.rest) else None) no))
+    sym (ap length_of (wide_open bytes read h gate ∙ ap (λ (t : Bool). if t then Some (take (said read) h.rest, drop (said read) h.rest) else None) no))
 
-stands : (bytes read : List ℕ) (h : Head bytes read) → get_or read 0 0 ≡ 1 → 5 + said read < length bytes → Some (said read) ≡ first_length (first_record bytes)
+stands : (bytes read : List ℕ) (h : Head bytes read) → get_or read 0 0 ≡ 1 → 5 + said read < length bytes → Some (said read) ≡ length_of (first_record bytes)
 stands bytes read h gate lt =
     let fits : nat_lt (said read) (length h.rest) ≡ true = grind (arith, lt, rest_length bytes read h) in
     let long : length (take (said read) h.rest) ≡ said read = length-take-le (said read) h.rest (omega (arith, lt, rest_length bytes read h)) in
-    sym (ap first_length (wide_open bytes read h gate ∙ ap (λ (t : Bool). if t then Some (take (said read) h.rest, drop (said read) h.rest) else None) fits) ∙ ap Some long)
+    sym (ap length_of (wide_open bytes read h gate ∙ ap (λ (t : Bool). if t then Some (take (said read) h.rest, drop (said read) h.rest) else None) fits) ∙ ap Some long)
 
 -- ---- the same of a disk that may tell
 
@@ -77,7 +77,7 @@ read_head file at count read reads whole =
     head_of (drop at file) read all (reads.1 ∙ ap (λ (n : ℕ). take n (drop at file) ++ drop n zeros) five ∙ append-nil (take 5 (drop at file)))
 
 abbrev Says : Option (List ℕ) → ℕ → ℕ → Option ℕ → Type 0
-Says seen at size found = IfSome seen (λ file. length file ≡ size → found ≡ first_length (first_record (drop at file)))
+Says seen at size found = IfSome seen (λ file. length file ≡ size → found ≡ length_of (first_record (drop at file)))
 
 pub says_few : (seen : Option (List ℕ)) (at size count : ℕ) (read : List ℕ) → Reads seen at zeros count read → count < 5 → Says seen at size None
 says_few None at size count read reads lt = tt

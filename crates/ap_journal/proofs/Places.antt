@@ -3,7 +3,7 @@ use Rattle.std.proofs.Common.{◌≡◌, ℕ, ◌+◌, ◌≤◌, ◌<◌, Bool,
 use Rattle.std.proofs.lemmas.List.{take_at, drop_at, drop-drop, drop_all, append-nil}
 use Rattle.std.proofs.lemmas.Option.{none-some}
 use Rattle.ap_journal.specs.Records.{first_record, with_others, records, standing, size_of, end_of, record_from, record_at}
-use Rattle.ap_journal.specs.State.{IsPlace, first_length, length_of}
+use Rattle.ap_journal.specs.State.{IsPlace, length_of}
 use Rattle.ap_journal.proofs.Standing.{IsFirst, first_is, unfolded, too_short}
 
 -- behind a first record the others stand
@@ -43,10 +43,10 @@ size_behind [] payload = omega arith
 size_behind (first ∷ before) payload = omega (arith, size_behind before payload)
 
 -- behind it is the next place
-pub next_place : (file : List ℕ) (at count : ℕ) → IsPlace file at → Some count ≡ first_length (first_record (drop at file)) → IsPlace file (at + (5 + count))
+pub next_place : (file : List ℕ) (at count : ℕ) → IsPlace file at → Some count ≡ length_of (first_record (drop at file)) → IsPlace file (at + (5 + count))
 next_place file at count is said = by_first (first_record (drop at file)) (unfolded (drop at file)) said
   where
-    by_first : (found : Option (List ℕ × List ℕ)) → records (drop at file) ≡ with_others records found → Some count ≡ first_length found → IsPlace file (at + (5 + count))
+    by_first : (found : Option (List ℕ × List ℕ)) → records (drop at file) ≡ with_others records found → Some count ≡ length_of found → IsPlace file (at + (5 + count))
     by_first None step says = absurd (none-some count (sym says))
     by_first (Some f) step says =
         let long : count ≡ length f.0 = cc says in
@@ -59,10 +59,10 @@ next_place file at count is said = by_first (first_record (drop at file)) (unfol
         }
 
 -- where no further record stands, they end
-pub last_place : (file : List ℕ) (at : ℕ) → IsPlace file at → None ≡ first_length (first_record (drop at file)) → at ≡ end_of file
+pub last_place : (file : List ℕ) (at : ℕ) → IsPlace file at → None ≡ length_of (first_record (drop at file)) → at ≡ end_of file
 last_place file at is said = by_first (first_record (drop at file)) (unfolded (drop at file)) said
   where
-    by_first : (found : Option (List ℕ × List ℕ)) → records (drop at file) ≡ with_others records found → None ≡ first_length found → at ≡ end_of file
+    by_first : (found : Option (List ℕ × List ℕ)) → records (drop at file) ≡ with_others records found → None ≡ length_of found → at ≡ end_of file
     by_first (Some f) step says = absurd (none-some (length f.0) says)
     by_first None step says =
         let behind : is.behind ≡ [] = sym (behind_place file at is) ∙ step in
@@ -104,28 +104,28 @@ none_past_end file place at is past le =
     sym (ap length_of (none_behind file place at is le nothing))
 
 -- where none stands at a place, none stands behind it
-pub none_here : (file : List ℕ) (place at : ℕ) → IsPlace file place → None ≡ first_length (first_record (drop place file)) → place ≤ at → None ≡ length_of (record_at file at)
+pub none_here : (file : List ℕ) (place at : ℕ) → IsPlace file place → None ≡ length_of (first_record (drop place file)) → place ≤ at → None ≡ length_of (record_at file at)
 none_here file place at is said le = sym (ap length_of (none_behind file place at is le (by_first (first_record (drop place file)) (at_place file place is) said)))
   where
-    by_first : (found : Option (List ℕ × List ℕ)) → is.behind ≡ with_others records found → None ≡ first_length found → is.behind ≡ []
+    by_first : (found : Option (List ℕ × List ℕ)) → is.behind ≡ with_others records found → None ≡ length_of found → is.behind ≡ []
     by_first None step says = step
     by_first (Some f) step says = absurd (none-some (length f.0) says)
 
 -- what stands at a place is what stands at that offset
-pub found_here : (file : List ℕ) (at : ℕ) (found : Option ℕ) → IsPlace file at → found ≡ first_length (first_record (drop at file)) → found ≡ length_of (record_at file at)
+pub found_here : (file : List ℕ) (at : ℕ) (found : Option ℕ) → IsPlace file at → found ≡ length_of (first_record (drop at file)) → found ≡ length_of (record_at file at)
 found_here file at found is said = said ∙ by_first (first_record (drop at file)) (at_place file at is) ∙ sym (ap length_of (at_or_behind file at at is (omega arith)))
   where
-    by_first : (found : Option (List ℕ × List ℕ)) → is.behind ≡ with_others records found → first_length found ≡ length_of (record_from is.behind at at)
+    by_first : (found : Option (List ℕ × List ℕ)) → is.behind ≡ with_others records found → length_of found ≡ length_of (record_from is.behind at at)
     by_first None step = sym (ap (λ (l : List (List ℕ)). length_of (record_from l at at)) step)
     by_first (Some f) step =
         let same : (at == at) ≡ true = grind arith in
         sym (ap (λ (l : List (List ℕ)). length_of (record_from l at at)) step ∙ ap (λ (t : Bool). length_of (if t then Some (f.0, at + 5 + length f.0) else record_from (records f.1) (at + 5 + length f.0) at)) same)
 
 -- no record stands at an offset that the next place is past
-pub passed_here : (file : List ℕ) (here count at : ℕ) → IsPlace file here → Some count ≡ first_length (first_record (drop here file)) → here < at → at < here + (5 + count) → record_at file at ≡ None
+pub passed_here : (file : List ℕ) (here count at : ℕ) → IsPlace file here → Some count ≡ length_of (first_record (drop here file)) → here < at → at < here + (5 + count) → record_at file at ≡ None
 passed_here file here count at is said lt past = at_or_behind file here at is (omega (arith, lt)) ∙ by_first (first_record (drop here file)) (at_place file here is) said
   where
-    by_first : (found : Option (List ℕ × List ℕ)) → is.behind ≡ with_others records found → Some count ≡ first_length found → record_from is.behind here at ≡ None
+    by_first : (found : Option (List ℕ × List ℕ)) → is.behind ≡ with_others records found → Some count ≡ length_of found → record_from is.behind here at ≡ None
     by_first None step says = absurd (none-some count (sym says))
     by_first (Some f) step says =
         let long : count ≡ length f.0 = cc says in

@@ -46,12 +46,7 @@ abbrev pub IsRefusedFor : {T : Type 0} → Option JournalFault → Result T Jour
 IsRefusedFor (Some stop) result = result ≡ Err stop
 IsRefusedFor None result = IfErr result (λ stop. (stop ≡ OutOfMemory) ⊎ (stop ≡ DiskFault))
 
--- the length of the payload of the first record
-abbrev pub first_length : Option (List ℕ × List ℕ) → Option ℕ
-first_length None = None
-first_length (Some found) = Some (length found.0)
-
--- the length of a record's payload
-abbrev pub length_of : Option (List ℕ × ℕ) → Option ℕ
+-- the length of a record's payload, where one was found with what follows it
+abbrev pub length_of : {X : Type 0} → Option (List ℕ × X) → Option ℕ
 length_of None = None
 length_of (Some found) = Some (length found.0)

@@ -1,4 +1,4 @@
-ghost use Rattle.std.specs.Prelude.{◌≡◌, ◌≤◌, ◌<◌, ◌+◌, ◌++◌, List, ℕ, length, take, IfOk, OnOk, IfSome};
+ghost use Rattle.std.specs.Prelude.{◌≡◌, ◌≤◌, ◌<◌, ◌+◌, ◌++◌, length, take, IfOk, OnOk, IfSome};
 ghost use Rattle.ap_text.specs.Causes.{HasCause};
 ghost use Rattle.ap_disk.specs.declared.disk.DiskFault.TheVariants.{Failed};
 ghost use Rattle.ap_disk.specs.Calls.{Reads, TellsAs};

@@ -1,9 +1,19 @@
-ghost use Rattle.std.specs.Prelude.{◌≡◌, ◌≤◌, ◌<◌, ◌+◌, ◌^◌, ℕ, length, IfOk, OnOk, OnErr, vec_capacity};
+ghost use Rattle.std.specs.Prelude.{◌≡◌, ◌≤◌, ◌<◌, ◌+◌, ◌^◌, length, OnOk, OnErr, vec_capacity};
 ghost use Rattle.ap_journal.specs.Changes.{frame};
 
 use std::alloc::AllocError;
 
-const CLOSED: u8 = 0;
+/// Where the first record of a file is, behind its header.
+pub(crate) const FIRST: u64 = 16;
+
+/// What a record takes beside its payload, in bytes: its gate and its length.
+pub(crate) const HEAD: u64 = 5;
+
+/// The gate of a record that stands.
+pub(crate) const OPEN: u8 = 1;
+
+/// The gate behind the last record.
+pub(crate) const CLOSED: u8 = 0;
 
 /// Makes this buffer what a commit of a payload writes behind the closed gate: the length, the payload and
 /// the next gate, closed. It takes memory only where the buffer has too little.

@@ -1,4 +1,4 @@
-ghost use Rattle.std.specs.Prelude.{◌≡◌, ◌≤◌, ◌<◌, ◌⊎◌, ◌+◌, ◌++◌, ◌^◌, ℕ, List, [], ◌∷◌, true, false, length, take, drop, Some, Err, IfOk, OnOk, IfErr, OnErr, IsErrOf, IfSome, vec_len, vec_capacity};
+ghost use Rattle.std.specs.Prelude.{◌≡◌, ◌≤◌, ◌<◌, ◌⊎◌, ◌+◌, ◌++◌, ◌^◌, ℕ, List, [], ◌∷◌, true, false, length, take, drop, Some, Err, IfOk, OnOk, IfErr, OnErr, IsErrOf, IfSome};
 ghost use Rattle.ap_text.specs.Causes.{HasCause, Rose};
 ghost use Rattle.ap_disk.specs.declared.disk.DiskFault.TheVariants.{Failed};
 ghost use Rattle.ap_disk.specs.Calls.{TellsAs};
@@ -11,18 +11,13 @@ ghost use Rattle.ap_journal.specs.State.{IsOf, IsPlace, refusal, IsRefusedFor};
 
 use crate::fault::JournalFault;
 use crate::file;
-use crate::framing::fill;
+use crate::framing::{FIRST, HEAD, OPEN, fill};
 use crate::opening::open_synced;
-use crate::reading::{FIRST, length_at};
+use crate::reading::length_at;
 use ap_disk::{Disk, Pair, Side};
 use ap_text::Bytes;
-use std::alloc::{AllocError, Global};
+use std::alloc::Global;
 use std::marker::Model;
-
-/// What a record takes beside its payload, in bytes: its gate and its length.
-const HEAD: u64 = 5;
-
-const OPEN: u8 = 1;
 
 /// The records of a pair of disks, and where they end. A journal doesn't hold its disks: each call takes the
 /// pair as the journal's last call left it. After a disk's fault the pair has to be opened again.

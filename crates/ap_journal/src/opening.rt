@@ -1,22 +1,21 @@
-ghost use Rattle.std.specs.Prelude.{◌≡◌, ◌≤◌, ◌<◌, ◌⊎◌, ◌+◌, ℕ, List, [], ◌∷◌, true, false, length, take, drop, IfOk, OnOk, IfErr, IsErrOf, IfSome};
+ghost use Rattle.std.specs.Prelude.{◌≡◌, ◌≤◌, ◌<◌, ◌⊎◌, ◌+◌, [], ◌∷◌, true, false, length, take, drop, IfOk, OnOk, IfErr, IsErrOf, IfSome};
 ghost use Rattle.ap_text.specs.Causes.{HasCause, Rose};
 ghost use Rattle.ap_disk.specs.declared.disk.DiskFault.TheVariants.{Failed};
 ghost use Rattle.ap_disk.specs.Calls.{TellsAs};
 ghost use Rattle.ap_disk.specs.Crashes.{Only};
 ghost use Rattle.ap_journal.specs.declared.fault.JournalFault.TheVariants.{BadHeader};
-ghost use Rattle.ap_journal.specs.Records.{standing, end_of, is_marked, has_bad_header, IsSameStore, IsAtRest};
+ghost use Rattle.ap_journal.specs.Records.{standing, is_marked, has_bad_header, IsSameStore};
 ghost use Rattle.ap_journal.specs.Changes.{IsCleaned, EndsAt};
 ghost use Rattle.ap_journal.specs.Moments.{Steps};
 
 use crate::fault::JournalFault;
 use crate::file;
-use crate::reading::{FIRST, records_end};
+use crate::framing::{CLOSED, FIRST};
+use crate::reading::records_end;
 use ap_disk::{Disk, DiskFault, Pair};
 
 /// The header of a file without records, of the first epoch, and its closed gate.
 const FIRST_BYTES: &[u8] = b"APSTORE1\0\0\0\0\0\0\0\x01\0";
-
-const CLOSED: u8 = 0;
 
 /// Whether the file begins with the mark of a journal.
 fn has_mark<D: Disk>(store: &mut Pair<D>) -> Result<bool, DiskFault>

@@ -1,17 +1,13 @@
-ghost use Rattle.std.specs.Prelude.{◌≡◌, ◌≤◌, ◌<◌, ◌⊎◌, ◌+◌, ◌++◌, List, ℕ, Some, None, length, drop, IfOk, IfSome};
+ghost use Rattle.std.specs.Prelude.{◌≡◌, ◌≤◌, ◌<◌, ◌⊎◌, ◌+◌, Some, None, length, drop, IfOk, IfSome};
 ghost use Rattle.ap_text.specs.Causes.{HasCause};
 ghost use Rattle.ap_disk.specs.declared.disk.DiskFault.TheVariants.{Failed};
 ghost use Rattle.ap_journal.specs.Records.{first_record, end_of, record_at};
-ghost use Rattle.ap_journal.specs.State.{IsPlace, first_length, length_of};
+ghost use Rattle.ap_journal.specs.State.{IsPlace, length_of};
 ghost use Rattle.ap_journal.specs.Moments.{Steps};
 
 use crate::file;
+use crate::framing::{FIRST, HEAD, OPEN};
 use ap_disk::{Disk, DiskFault, Pair};
-
-/// Where the first record of a file is, behind its header.
-pub(crate) const FIRST: u64 = 16;
-
-const OPEN: u8 = 1;
 
 /// The length of the payload of the record that stands at an offset of a file of this length: its gate is
 /// open, and its length field, its payload and the next gate lie in the file.
@@ -22,7 +18,7 @@ pub(crate) fn payload_length<D: Disk>(
 ) -> Result<Option<u64>, DiskFault>
     requires { at ≤ size }
     ensures found { IfOk result (λ found. IfSome (D.seen store.old.0)
-        (λ bytes. length bytes ≡ size → found ≡ first_length (first_record (drop at bytes)))) }
+        (λ bytes. length bytes ≡ size → found ≡ length_of (first_record (drop at bytes)))) }
     ensures fits { IfOk result (λ found. IfSome found (λ count. at + (5 + count) < size)) }
     ensures seen { D.seen store.new.0 ≡ D.seen store.old.0 }
     ensures steps { Steps D.seen D.may_leave D.clock D.left_at D.room D.faults store.old store.new (D.may_leave store.old.0) }
@@ -38,7 +34,7 @@ pub(crate) fn payload_length<D: Disk>(
         return Ok(None);
     }
     let length = u32::from_be_bytes([a, b, c, d]) as u64;
-    if size - at <= 5 + length {
+    if size - at <= HEAD + length {
         return Ok(None);
     }
     Ok(Some(length))
@@ -60,7 +56,7 @@ pub(crate) fn records_end<D: Disk>(store: &mut Pair<D>, size: u64) -> Result<u64
     }
     let mut next = payload_length(store, end, size)?;
     while let Some(length) = next {
-        end += 5 + length;
+        end += HEAD + length;
         next = payload_length(store, end, size)?;
     }
     Ok(end)
@@ -90,7 +86,7 @@ pub(crate) fn length_at<D: Disk>(
         let Some(length) = payload_length(store, here, size)? else {
             return Ok(None);
         };
-        here += 5 + length;
+        here += HEAD + length;
     }
     if here > at || at > size {
         return Ok(None);

@@ -1,7 +1,7 @@
 use Rattle.std.proofs.Common.{◌≡◌, ◌≤◌, ◌<◌, ◌⊎◌, inl, inr, ◌+◌, ℕ, List, Some, None, length, drop, IfSome, sym, ◌∙◌, ap, subst, arith}
 use Rattle.std.specs.Prelude.{Option}
 use Rattle.ap_journal.specs.Records.{first_record, record_at}
-use Rattle.ap_journal.specs.State.{IsPlace, first_length, length_of}
+use Rattle.ap_journal.specs.State.{IsPlace, length_of}
 use Rattle.ap_journal.proofs.Between.{and_on}
 use Rattle.ap_journal.proofs.Told.{one, two, where_ok, not_some}
 use Rattle.ap_journal.proofs.Places.{next_place, none_past_end, none_here, found_here, passed_here}
@@ -17,10 +17,10 @@ loop-here-preserved g c =
     let count = c.in-Some.length in
     let next = here + (5 + count) in
     let Place : ℕ → List ℕ → Type 0 = λ at bytes. length bytes ≡ size → IsPlace bytes c.args.place → IsPlace bytes at in
-    let Says : List ℕ → Type 0 = λ bytes. length bytes ≡ size → Some count ≡ first_length (first_record (drop here bytes)) in
+    let Says : List ℕ → Type 0 = λ bytes. length bytes ≡ size → Some count ≡ length_of (first_record (drop here bytes)) in
     let Passed : List ℕ → Type 0 = λ bytes. length bytes ≡ size → IsPlace bytes c.args.place → c.args.at < next → record_at bytes c.args.at ≡ None in
-    let raw : IfSome (d.seen c.loop-here.store.0) (λ bytes. length bytes ≡ size → c.in_ok-length.field-0 ≡ first_length (first_record (drop here bytes))) = c.in_ok-length.ensures.found in
-    let raw_some = subst (λ (o : Option ℕ). IfSome (d.seen c.loop-here.store.0) (λ bytes. length bytes ≡ size → o ≡ first_length (first_record (drop here bytes)))) c.in-Some.is raw in
+    let raw : IfSome (d.seen c.loop-here.store.0) (λ bytes. length bytes ≡ size → c.in_ok-length.field-0 ≡ length_of (first_record (drop here bytes))) = c.in_ok-length.ensures.found in
+    let raw_some = subst (λ (o : Option ℕ). IfSome (d.seen c.loop-here.store.0) (λ bytes. length bytes ≡ size → o ≡ length_of (first_record (drop here bytes)))) c.in-Some.is raw in
     let says = subst (λ (o : Option (List ℕ)). IfSome o Says) loop.seen raw_some in
     let read = and_on d.seen d.may_leave d.clock d.left_at d.room d.faults c.args.store.now c.loop-here.store c.payload_length.new.store (d.may_leave c.args.store.now.0) (d.may_leave c.loop-here.store.0) (d.may_leave c.args.store.now.0)
     loop.steps c.payload_length.ensures.steps (λ l left. left) loop.steps.crash in
@@ -44,7 +44,7 @@ returns-in_default-clause-found g c =
     let here = c.loop-here.here in
     let nothing : c.in_ok-length.field-0 ≡ None = not_some c.in_ok-length.field-0 c.in_default.not-Some in
     let Place : List ℕ → Type 0 = λ bytes. length bytes ≡ c.args.size → IsPlace bytes c.args.place → IsPlace bytes here in
-    let Says : List ℕ → Type 0 = λ bytes. length bytes ≡ c.args.size → c.in_ok-length.field-0 ≡ first_length (first_record (drop here bytes)) in
+    let Says : List ℕ → Type 0 = λ bytes. length bytes ≡ c.args.size → c.in_ok-length.field-0 ≡ length_of (first_record (drop here bytes)) in
     let Nothing : List ℕ → Type 0 = λ bytes. length bytes ≡ c.args.size → IsPlace bytes c.args.place → None ≡ length_of (record_at bytes c.args.at) in
     let says = subst (λ (o : Option (List ℕ)). IfSome o Says) c.loop-here.invariant.seen c.in_ok-length.ensures.found in
     two (g.D.Disk.seen c.args.store.now.0) Place Says Nothing c.loop-here.invariant.place says
@@ -69,7 +69,7 @@ returns-clause-found g c =
     let at = c.args.at in
     let here_at : c.loop-here.here ≡ at = omega (arith, c.loop-here-test.false, c.if-here-at.false) in
     let Place : List ℕ → Type 0 = λ bytes. length bytes ≡ c.args.size → IsPlace bytes c.args.place → IsPlace bytes at in
-    let Says : Option ℕ → List ℕ → Type 0 = λ found bytes. length bytes ≡ c.args.size → found ≡ first_length (first_record (drop at bytes)) in
+    let Says : Option ℕ → List ℕ → Type 0 = λ found bytes. length bytes ≡ c.args.size → found ≡ length_of (first_record (drop at bytes)) in
     let Found : Option ℕ → List ℕ → Type 0 = λ found bytes. length bytes ≡ c.args.size → IsPlace bytes c.args.place → found ≡ length_of (record_at bytes at) in
     let place = subst (λ (n : ℕ). IfSome told (λ bytes. length bytes ≡ c.args.size → IsPlace bytes c.args.place → IsPlace bytes n)) here_at c.loop-here.invariant.place in
     where_ok c.payload_length-2.result (λ found. IfSome (g.D.Disk.seen c.loop-here.store.0) (Says found)) (λ found. IfSome told (Found found)) c.payload_length-2.ensures.found

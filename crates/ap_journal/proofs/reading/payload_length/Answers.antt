@@ -1,6 +1,6 @@
 use Rattle.std.proofs.Common.{◌≡◌, ℕ, ◌+◌, ◌-◌, ◌≤◌, ◌<◌, Some, IfSome, length, drop, sym, subst}
 use Rattle.ap_journal.specs.Records.{first_record}
-use Rattle.ap_journal.specs.State.{first_length}
+use Rattle.ap_journal.specs.State.{length_of}
 use Rattle.ap_journal.proofs.Heads.{says_few, says_shut, says_beyond, says_whole}
 use Rattle.ap_journal.proofs.reading.payload_length.Goals as goal
 
@@ -19,4 +19,4 @@ pub returns-clause-found : goal.returns-clause-found
 returns-clause-found g c =
     let lt = subst (λ (n : ℕ). 5 + n < c.args.size - c.args.at) c.from_be_bytes-length.ensures c.if-size-at.false in
     let found = says_whole (g.D.Disk.seen c.args.store.now.0) c.args.at c.args.size c.in_ok-count.count c.read.new.buf c.in_ok-count.ensures.bytes c.if-count-lt5.false c.if-gate-ne-OPEN.false lt in
-    subst (λ (n : ℕ). IfSome (g.D.Disk.seen c.args.store.now.0) (λ file. length file ≡ c.args.size → Some n ≡ first_length (first_record (drop c.args.at file)))) (sym c.from_be_bytes-length.ensures) found
+    subst (λ (n : ℕ). IfSome (g.D.Disk.seen c.args.store.now.0) (λ file. length file ≡ c.args.size → Some n ≡ length_of (first_record (drop c.args.at file)))) (sym c.from_be_bytes-length.ensures) found

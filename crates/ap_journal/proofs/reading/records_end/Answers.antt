@@ -1,7 +1,7 @@
 use Rattle.std.proofs.Common.{◌≡◌, ◌<◌, inr, ◌+◌, ℕ, List, None, length, drop, IfSome, sym, ◌∙◌, ap, subst, arith}
 use Rattle.std.specs.Prelude.{Option}
 use Rattle.ap_journal.specs.Records.{first_record, end_of, size_of}
-use Rattle.ap_journal.specs.State.{IsPlace, first_length}
+use Rattle.ap_journal.specs.State.{IsPlace, length_of}
 use Rattle.ap_journal.proofs.Between.{and_on}
 use Rattle.ap_journal.proofs.Laid.{nothing_stands}
 use Rattle.ap_journal.proofs.Told.{every, two, not_some}
@@ -25,7 +25,7 @@ loop-next-preserved g c =
     let count = c.in-Some.length in
     let fits : end + (5 + count) < size = subst (λ (o : Option ℕ). IfSome o (λ n. end + (5 + n) < size)) c.in-Some.is loop.next_fits in
     let Place : ℕ → List ℕ → Type 0 = λ at bytes. length bytes ≡ size → IsPlace bytes at in
-    let Says : Option ℕ → ℕ → List ℕ → Type 0 = λ found at bytes. length bytes ≡ size → found ≡ first_length (first_record (drop at bytes)) in
+    let Says : Option ℕ → ℕ → List ℕ → Type 0 = λ found at bytes. length bytes ≡ size → found ≡ length_of (first_record (drop at bytes)) in
     let place = two told (Place end) (Says c.loop-next.next end) (Place next) loop.place loop.says
     (λ bytes is said long. next_place bytes end count (is long) (sym c.in-Some.is ∙ said long)) in
     let says = subst (λ (o : Option (List ℕ)). IfSome o (Says c.in_ok-next-2.next next)) loop.seen c.in_ok-next-2.ensures.found in
@@ -49,5 +49,5 @@ returns-clause-end g c =
     let size = c.args.size in
     let end = c.loop-next.end in
     let nothing : c.loop-next.next ≡ None = not_some c.loop-next.next c.in_default.not-Some in
-    two told (λ bytes. length bytes ≡ size → IsPlace bytes end) (λ bytes. length bytes ≡ size → c.loop-next.next ≡ first_length (first_record (drop end bytes))) (λ bytes. length bytes ≡ size → end ≡ end_of bytes)
+    two told (λ bytes. length bytes ≡ size → IsPlace bytes end) (λ bytes. length bytes ≡ size → c.loop-next.next ≡ length_of (first_record (drop end bytes))) (λ bytes. length bytes ≡ size → end ≡ end_of bytes)
     loop.place loop.says (λ bytes is said long. last_place bytes end (is long) (sym nothing ∙ said long))
