@@ -3,7 +3,7 @@ use Rattle.std.specs.Prelude.{◌≡◌, ℕ, List, Contains, IfSome, find, byte
 use Rattle.std.specs.List.{AllByRecursion}
 use Rattle.ap_builder.specs.declared.offer.Target.{Target}
 use Rattle.ap_builder.specs.declared.offer.Target.TheVariants.{File, Glob}
-use Rattle.ap_builder.specs.declared.job.JobDesc.{JobDesc}
+use Rattle.ap_rows.specs.declared.job.JobDesc.{JobDesc}
 use Rattle.ap_builder.specs.declared.product.Product.{Product}
 use Rattle.ap_builder.specs.declared.work.CreateInput.{CreateInput}
 use Rattle.ap_builder.specs.declared.work.CreateAnswer.{CreateAnswer}

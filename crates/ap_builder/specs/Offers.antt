@@ -1,7 +1,7 @@
 -- The builders that are offered.
 use Rattle.std.specs.Prelude.{ℕ, Bool, true, not, ◌&&◌, List, [], ◌∷◌, bytes_eq}
 use Rattle.std.specs.List.{list_any, AllByRecursion}
-use Rattle.ap_builder.specs.declared.offer.Offer.{Offer}
+use Rattle.ap_config.specs.declared.offer.Offer.{Offer}
 use Rattle.ap_builder.specs.Paths.{IsPattern}
 
 -- some offer has this name

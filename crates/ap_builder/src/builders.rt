@@ -1,7 +1,7 @@
 ghost use Rattle.std.specs.Prelude.{◌≡◌, ℕ, List, IsTrue, IfOk};
 ghost use Rattle.std.specs.List.{AllByRecursion};
 ghost use Rattle.ap_builder.specs.declared.entry.Entry.{Entry};
-ghost use Rattle.ap_builder.specs.declared.offer.Offer.{Offer};
+ghost use Rattle.ap_config.specs.declared.offer.Offer.{Offer};
 ghost use Rattle.ap_builder.specs.declared.offer.Target.{Target};
 ghost use Rattle.ap_builder.specs.declared.work.CreateInput.{CreateInput};
 ghost use Rattle.ap_builder.specs.declared.work.CreateAnswer.{CreateAnswer};

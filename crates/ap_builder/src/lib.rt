@@ -8,17 +8,16 @@
 mod bench;
 mod builders;
 mod entry;
-mod job;
 mod offer;
 mod product;
 #[cfg(test)]
 mod tests;
 mod work;
 
+pub use ap_rows::{DepKind, DependencyRow, JobDesc, LegacyRow, RefRow};
 pub use bench::{Bench, Permit};
 pub use builders::Builders;
 pub use entry::Entry;
-pub use job::{DepKind, DependencyRow, JobDesc};
 pub use offer::{Offer, Target};
-pub use product::{LegacyRow, Product, RefRow};
+pub use product::Product;
 pub use work::{CreateAnswer, CreateInput, Handed, JobInput, Outcome};

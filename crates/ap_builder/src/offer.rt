@@ -1,13 +1,5 @@
-use ap_text::{Bytes, List, Name, RelPath};
-
-/// A builder that may be configured: its name, the patterns of the paths that it takes where the
-/// configuration gives none, and its version where the configuration gives none.
-#[derive(Drop)]
-pub struct Offer {
-    pub name: Name,
-    pub patterns: List<Bytes>,
-    pub version: u32,
-}
+pub use ap_config::Offer;
+use ap_text::{Bytes, RelPath};
 
 /// What the bytes of a source say that it depends on.
 #[derive(Drop)]

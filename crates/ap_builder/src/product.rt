@@ -1,18 +1,5 @@
-use ap_text::{Bytes, FileName, List, Name, RelPath};
-
-/// A dependency of a product on another product, by its source's folded path and its sub id.
-#[derive(Drop)]
-pub struct RefRow {
-    pub path: RelPath,
-    pub sub: u32,
-}
-
-/// The ids that a product had before: former sub ids of its source, and former folded paths of its source.
-#[derive(Drop)]
-pub struct LegacyRow {
-    pub old: List<u32>,
-    pub formerly: List<RelPath>,
-}
+use ap_rows::{LegacyRow, RefRow};
+use ap_text::{Bytes, FileName, List, Name};
 
 /// A file that a job made. Its `kind` is the asset type, and `sub` its number among the source's products.
 #[derive(Drop)]

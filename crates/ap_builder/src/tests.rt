@@ -2,7 +2,7 @@ ghost use Rattle.std.specs.Prelude.{◌≡◌, [], ◌∷◌, IfOk, IsTrue, code
 ghost use Rattle.std.proofs.Common.{refl, arith};
 ghost use Rattle.ap_builder.specs.Offers.{is_offered};
 ghost use Rattle.ap_builder.specs.Work.{job_of};
-ghost use Rattle.ap_builder.specs.declared.offer.Offer.{Offer};
+ghost use Rattle.ap_config.specs.declared.offer.Offer.{Offer};
 ghost use Rattle.ap_builder.specs.declared.work.CreateAnswer.{CreateAnswer};
 ghost use Rattle.ap_builder.specs.declared.work.Outcome.{Outcome};
 

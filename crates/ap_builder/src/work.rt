@@ -1,5 +1,5 @@
-use crate::job::{DepKind, JobDesc};
 use crate::product::Product;
+use ap_rows::{DepKind, JobDesc};
 use ap_text::{Bytes, JobId, List, Name, Platform, RelPath, Seen};
 
 /// What a builder creates a source's jobs from: the names and versions of the builders that match the

@@ -3,7 +3,7 @@ use Rattle.std.proofs.Common.{◌≡◌, ◌≤◌, ℕ, List, length, drop, ref
 use Rattle.std.specs.Prelude.{Option, Some, None, IfSome}
 use Rattle.std.proofs.lemmas.List.{drop_at}
 use Rattle.ap_builder.specs.declared.entry.Entry.{Entry}
-use Rattle.ap_builder.specs.declared.offer.Offer.{Offer}
+use Rattle.ap_config.specs.declared.offer.Offer.{Offer}
 use Rattle.ap_builder.specs.declared.work.CreateInput.{CreateInput}
 use Rattle.ap_builder.specs.declared.work.CreateAnswer.{CreateAnswer}
 use Rattle.ap_builder.specs.declared.work.JobInput.{JobInput}
@@ -14,7 +14,7 @@ use Rattle.ap_cli.specs.Sources.{Files, IsSource, AreSources, source_cmp}
 use Rattle.ap_cli.specs.Layout.{AreApart}
 use Rattle.ap_cli.specs.Work.{copy_name, version_of, files_of}
 use Rattle.ap_cli.specs.Unbuilt.{IsUnreadable, no_path, alike, too_large, IsRefused, no_job, no_product, in_the_way, IsUnbuilt, no_copy, unreadable, refused}
-use Rattle.ap_builder.specs.declared.job.JobDesc.{JobDesc}
+use Rattle.ap_rows.specs.declared.job.JobDesc.{JobDesc}
 use Rattle.ap_cli.specs.declared.source.Source.{Source}
 use Rattle.ap_cli.proofs.OneList.{Lists-unique, source_cmp_total}
 use Rattle.ap_cli.specs.Lines.{report_lem}

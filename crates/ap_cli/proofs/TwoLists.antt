@@ -4,7 +4,7 @@ use Rattle.std.specs.Prelude.{Option, Some, None}
 use Rattle.std.proofs.Math.Seq.{take-length}
 use Rattle.ap_builder.specs.declared.entry.Entry.{Entry}
 use Rattle.ap_builder.specs.declared.entry.Entry.TheVariants.{Process}
-use Rattle.ap_builder.specs.declared.job.JobDesc.{JobDesc}
+use Rattle.ap_rows.specs.declared.job.JobDesc.{JobDesc}
 use Rattle.ap_builder.specs.declared.work.JobInput.{JobInput}
 use Rattle.ap_builder.specs.declared.work.Outcome.{Outcome}
 use Rattle.ap_builder.specs.Work.{job_of}

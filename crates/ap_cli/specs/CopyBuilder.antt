@@ -2,9 +2,9 @@
 use Rattle.std.specs.Prelude.{ℕ, List, [], ◌∷◌, map, codes, pos, bytes_eq, if◌then◌else◌}
 use Rattle.std.specs.Str.{str_to_ascii_lowercase}
 use Rattle.ap_text.specs.PathRules.{file_name_lem}
-use Rattle.ap_builder.specs.declared.offer.Offer.{Offer}
+use Rattle.ap_config.specs.declared.offer.Offer.{Offer}
 use Rattle.ap_builder.specs.declared.offer.Target.{Target}
-use Rattle.ap_builder.specs.declared.job.JobDesc.{JobDesc}
+use Rattle.ap_rows.specs.declared.job.JobDesc.{JobDesc}
 use Rattle.ap_builder.specs.declared.product.Product.{Product}
 use Rattle.ap_builder.specs.declared.work.CreateInput.{CreateInput}
 use Rattle.ap_builder.specs.declared.work.CreateAnswer.{CreateAnswer}

@@ -1,8 +1,8 @@
 -- What the parts of a run hand on.
 use Rattle.std.specs.Prelude.{◌≡◌, ℕ, List, ◌++◌, Some}
 use Rattle.ap_builder.specs.declared.entry.Entry.{Entry}
-use Rattle.ap_builder.specs.declared.job.JobDesc.{JobDesc}
-use Rattle.ap_builder.specs.declared.offer.Offer.{Offer}
+use Rattle.ap_rows.specs.declared.job.JobDesc.{JobDesc}
+use Rattle.ap_config.specs.declared.offer.Offer.{Offer}
 use Rattle.ap_builder.specs.declared.work.CreateInput.{CreateInput}
 use Rattle.ap_builder.specs.declared.work.CreateAnswer.{CreateAnswer}
 use Rattle.ap_builder.specs.declared.work.JobInput.{JobInput}

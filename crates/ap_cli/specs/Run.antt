@@ -1,8 +1,8 @@
 -- What a run of `batch` does.
 use Rattle.std.specs.Prelude.{◌≡◌, ℕ, List, ◌++◌, length, Some}
 use Rattle.ap_builder.specs.declared.entry.Entry.{Entry}
-use Rattle.ap_builder.specs.declared.job.JobDesc.{JobDesc}
-use Rattle.ap_builder.specs.declared.offer.Offer.{Offer}
+use Rattle.ap_rows.specs.declared.job.JobDesc.{JobDesc}
+use Rattle.ap_config.specs.declared.offer.Offer.{Offer}
 use Rattle.ap_builder.specs.declared.work.CreateInput.{CreateInput}
 use Rattle.ap_builder.specs.declared.work.CreateAnswer.{CreateAnswer}
 use Rattle.ap_builder.specs.declared.work.JobInput.{JobInput}

@@ -1,7 +1,7 @@
 -- Why a folder's files can't be made of what is built so far.
 use Rattle.std.specs.Prelude.{◌≡◌, ◌<◌, ℕ, List, length, Contains, Some, None}
-use Rattle.ap_builder.specs.declared.job.JobDesc.{JobDesc}
-use Rattle.ap_builder.specs.declared.offer.Offer.{Offer}
+use Rattle.ap_rows.specs.declared.job.JobDesc.{JobDesc}
+use Rattle.ap_config.specs.declared.offer.Offer.{Offer}
 use Rattle.ap_builder.specs.declared.work.CreateInput.{CreateInput}
 use Rattle.ap_builder.specs.declared.work.CreateAnswer.{CreateAnswer}
 use Rattle.ap_builder.specs.declared.work.JobInput.{JobInput}

@@ -1,10 +1,10 @@
 -- What the builder `copy` is asked for, and what comes of it.
 use Rattle.std.specs.Prelude.{ℕ, List, [], ◌∷◌, map, codes, bytes_eq, if◌then◌else◌, Option, Some, None}
-use Rattle.ap_builder.specs.declared.offer.Offer.{Offer}
+use Rattle.ap_config.specs.declared.offer.Offer.{Offer}
 use Rattle.ap_builder.specs.declared.entry.Entry.{Entry}
 use Rattle.ap_builder.specs.declared.entry.Entry.TheVariants.{Create, Process}
-use Rattle.ap_builder.specs.declared.job.DependencyRow.{DependencyRow}
-use Rattle.ap_builder.specs.declared.job.JobDesc.{JobDesc}
+use Rattle.ap_rows.specs.declared.job.DependencyRow.{DependencyRow}
+use Rattle.ap_rows.specs.declared.job.JobDesc.{JobDesc}
 use Rattle.ap_builder.specs.declared.product.Product.{Product}
 use Rattle.ap_builder.specs.declared.work.CreateInput.{CreateInput}
 use Rattle.ap_builder.specs.declared.work.CreateAnswer.{CreateAnswer}

@@ -1,7 +1,7 @@
 -- The builders that take a path.
 use Rattle.std.specs.Prelude.{ℕ, List, map, filter}
 use Rattle.std.specs.List.{enumerate_from}
-use Rattle.ap_wild.specs.Wild.{some_matches_lem}
+use Rattle.ap_text.specs.Wild.{some_matches_lem}
 use Rattle.ap_config.specs.declared.offer.Offer.{Offer}
 
 -- the places of the builders of which some pattern matches the path

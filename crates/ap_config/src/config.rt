@@ -7,8 +7,7 @@ use crate::fault::ConfigFault;
 use crate::judge::judge;
 use crate::offer::Offer;
 use crate::shape::read_values;
-use ap_text::{Bytes, List, OutOfMemory, Platform, RelPath};
-use ap_wild::some_matches;
+use ap_text::{Bytes, List, OutOfMemory, Platform, RelPath, some_matches};
 use std::alloc::Global;
 use toml::Table;
 

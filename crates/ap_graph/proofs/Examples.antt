@@ -1,7 +1,7 @@
 -- The definitions at small graphs. Each line is proved by computing.
 use Rattle.std.proofs.Common.{◌≡◌, ℕ, pos, Bool, true, false, List, [], ◌∷◌, map, refl}
 use Rattle.std.specs.Prelude.{codes}
-use Rattle.ap_builder.specs.declared.job.DepKind.TheVariants.{Order, OrderOnce, Fingerprint}
+use Rattle.ap_rows.specs.declared.job.DepKind.TheVariants.{Order, OrderOnce, Fingerprint}
 use Rattle.ap_text.specs.declared.job_id.JobId.{JobId}
 use Rattle.ap_graph.specs.declared.node.JobNode.{JobNode}
 use Rattle.ap_graph.specs.declared.node.Progress.TheVariants.{Pending, Issued, Settled}

@@ -14,7 +14,8 @@ use Rattle.ap_graph.specs.declared.node.Progress.{Progress}
 use Rattle.ap_graph.specs.declared.node.Progress.TheVariants.{Pending, Issued, Settled}
 use Rattle.ap_graph.specs.declared.node.State.TheVariants.{Waiting, Ready}
 use Rattle.ap_graph.specs.declared.job.Job.{Job}
-use Rattle.ap_graph.specs.Ids.{job_cmp, same_job, name_at}
+use Rattle.ap_text.specs.JobOrder.{job_cmp, same_job}
+use Rattle.ap_graph.specs.Ids.{name_at}
 use Rattle.ap_graph.specs.Waits.{Kind, waits_for}
 use Rattle.ap_graph.specs.Rows.{row_at, count_of, IsClosed}
 use Rattle.ap_graph.specs.Contest.{Contest, goes_before, contest_cmp}

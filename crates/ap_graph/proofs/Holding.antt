@@ -16,8 +16,9 @@ use Rattle.ap_graph.specs.declared.node.Progress.{Progress}
 use Rattle.ap_graph.specs.declared.node.Progress.TheVariants.{Pending}
 use Rattle.ap_graph.specs.declared.job.Job.{Job}
 use Rattle.ap_graph.specs.Chain.{Chain, step, through}
-use Rattle.ap_graph.specs.Ids.{job_cmp, same_job, nobody, name_at}
-use Rattle.ap_builder.specs.declared.job.DepKind.TheVariants.{Order}
+use Rattle.ap_text.specs.JobOrder.{job_cmp, same_job, job_total}
+use Rattle.ap_graph.specs.Ids.{nobody, name_at}
+use Rattle.ap_rows.specs.declared.job.DepKind.TheVariants.{Order}
 use Rattle.ap_graph.specs.Waits.{Kind, waits_for}
 use Rattle.ap_graph.specs.Rows.{row_at}
 use Rattle.ap_graph.specs.Nodes.{node_at, targets_of, edges, IsOnCycle}
@@ -25,7 +26,7 @@ use Rattle.ap_graph.specs.Jobs.{GraphJob, nodes_of, job_at, is_job, has_settled,
 use Rattle.ap_graph.specs.Held.{named, node_of, nodes_held, marked, targets_in, waits_in, all_targets, all_waits, open_count, EdgesWithin}
 use Rattle.ap_graph.specs.Contest.{priority_at, contest_cmp}
 use Rattle.ap_graph.proofs.Members.{Contains-map, Contains-map_cases}
-use Rattle.ap_graph.proofs.IdOrder.{same_job-Decides, same_job-itself, not_same_job, rises_at, one_place, job_total}
+use Rattle.ap_graph.proofs.IdOrder.{same_job-Decides, same_job-itself, not_same_job, rises_at, one_place}
 
 -- sorted by what a function gives is sorted once it is applied
 pub sorted_map : {X Y : Type 0} (f : X → Y) (lt : Y → Y → Bool) (xs : List X) → IsSortedBy (λ a b. lt (f a) (f b)) xs → IsSortedBy lt (map f xs)

@@ -17,12 +17,10 @@ use Rattle.std.proofs.lemmas.Map.Text.{is_eq-slice_cmp}
 use Rattle.ap_text.specs.declared.job_id.JobId.{JobId}
 use Rattle.ap_text.specs.Order.{bytes_cmp, Lists}
 use Rattle.ap_graph.specs.declared.node.JobNode.{JobNode}
-use Rattle.ap_graph.specs.Ids.{job_cmp, same_job, nobody, name_at}
+use Rattle.ap_text.specs.JobOrder.{job_cmp, same_job, job_total}
+use Rattle.ap_graph.specs.Ids.{nobody, name_at}
 use Rattle.ap_graph.specs.Nodes.{node_cmp, HasDistinctIds}
 use Rattle.ap_graph.proofs.Members.{AllByRecursion-at}
-
-pub job_total : IsTotalOrder job_cmp
-job_total = then_total (on_total (λ (a : JobId). a.source) nat_list_cmp_total) (then_total (on_total (λ (a : JobId). a.key) nat_list_cmp_total) (on_total (λ (a : JobId). a.platform) nat_list_cmp_total))
 
 pub node_total : IsTotalOrder node_cmp
 node_total = on_total (λ (a : JobNode). a.id) job_total

@@ -10,7 +10,7 @@ use Rattle.std.proofs.lemmas.List.{get_or_default}
 use Rattle.ap_text.specs.declared.job_id.JobId.{JobId}
 use Rattle.ap_graph.specs.declared.node.JobNode.{JobNode}
 use Rattle.ap_graph.specs.declared.node.Progress.{Progress}
-use Rattle.ap_graph.specs.Ids.{job_cmp, same_job}
+use Rattle.ap_text.specs.JobOrder.{job_cmp, same_job}
 use Rattle.ap_graph.specs.Nodes.{node_cmp, is_node, HasDistinctIds}
 use Rattle.ap_graph.specs.Jobs.{GraphJob, job_at, is_job, with_progress, AreNew}
 use Rattle.ap_graph.proofs.Members.{Contains-none, Contains-cons_cases, Contains-map_cases, AllByRecursion-from}

@@ -6,7 +6,8 @@ use Rattle.ap_graph.specs.declared.node.JobNode.{JobNode}
 use Rattle.ap_graph.specs.declared.node.Progress.{Progress}
 use Rattle.ap_graph.specs.declared.node.Progress.TheVariants.{Pending, Issued, Settled}
 use Rattle.ap_graph.specs.declared.job.Job.{Job}
-use Rattle.ap_graph.specs.Ids.{job_cmp, name_at}
+use Rattle.ap_text.specs.JobOrder.{job_cmp}
+use Rattle.ap_graph.specs.Ids.{name_at}
 use Rattle.ap_graph.specs.Waits.{Kind, waits_for}
 use Rattle.ap_graph.specs.Rows.{row_at, IsReverse}
 use Rattle.ap_graph.specs.Groups.{TellsCycles}

@@ -10,7 +10,7 @@ use Rattle.ap_graph.specs.declared.node.Progress.{Progress}
 use Rattle.ap_graph.specs.declared.node.Progress.TheVariants.{Pending, Issued, Settled}
 use Rattle.ap_graph.specs.declared.node.State.{State}
 use Rattle.ap_graph.specs.declared.node.State.TheVariants.{Waiting, Ready, Issued as IssuedState, Settled as SettledState}
-use Rattle.ap_graph.specs.Ids.{job_cmp, same_job}
+use Rattle.ap_text.specs.JobOrder.{job_cmp, same_job}
 use Rattle.ap_graph.specs.Waits.{waits_for}
 use Rattle.ap_graph.specs.Nodes.{node_cmp, IsOnCycle}
 

@@ -1,7 +1,7 @@
 -- Which dependencies a job waits for.
 use Rattle.std.specs.Prelude.{Bool, true, not}
-use Rattle.ap_builder.specs.declared.job.DepKind.{DepKind}
-use Rattle.ap_builder.specs.declared.job.DepKind.TheVariants.{Order, OrderOnce, Fingerprint}
+use Rattle.ap_rows.specs.declared.job.DepKind.{DepKind}
+use Rattle.ap_rows.specs.declared.job.DepKind.TheVariants.{Order, OrderOnce, Fingerprint}
 
 -- the kinds of dependencies
 abbrev pub Kind : Type 0

@@ -2,7 +2,7 @@ ghost use Rattle.std.specs.Prelude.{◌≡◌, ◌≢◌, ◌↔◌, true, lengt
 ghost use Rattle.std.specs.List.Sorted.{IsStrictlySortedBy};
 ghost use Rattle.ap_graph.specs.declared.node.State.TheVariants.{Ready};
 ghost use Rattle.ap_graph.specs.declared.node.Progress.TheVariants.{Pending, Issued, Settled};
-ghost use Rattle.ap_graph.specs.Ids.{job_cmp};
+ghost use Rattle.ap_text.specs.JobOrder.{job_cmp};
 ghost use Rattle.ap_graph.specs.Nodes.{HasDistinctIds, IsResolved, IsOnCycle};
 ghost use Rattle.ap_graph.specs.Jobs.{GraphJob, nodes_of, is_job, state_of, with_progress, IsNext, AreNew, MayBeSettled};
 ghost use Rattle.ap_graph.specs.Held.{nodes_held, marked, EdgesWithin};

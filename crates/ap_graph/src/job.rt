@@ -2,12 +2,12 @@ ghost use Rattle.std.specs.Prelude.{◌≡◌, ◌<◌, true, map, length, Conta
 ghost use Rattle.std.specs.List.{AllByRecursion};
 ghost use Rattle.std.specs.List.Sorted.{IsStrictlySortedBy};
 ghost use Rattle.ap_text.specs.Order.{Lists};
-ghost use Rattle.ap_graph.specs.Ids.{job_cmp};
+ghost use Rattle.ap_text.specs.JobOrder.{job_cmp};
 ghost use Rattle.ap_graph.specs.Nodes.{node_cmp, HasDistinctIds};
 ghost use Rattle.ap_graph.specs.Places.{HavePlaces};
 ghost use Rattle.ap_graph.specs.Held.{named, nodes_held, EdgesWithin};
 
-use crate::ids::{compare, place_of};
+use crate::ids::place_of;
 use crate::kind::DepKind;
 use crate::node::JobNode;
 use ap_text::{JobId, OutOfMemory};
@@ -30,7 +30,7 @@ pub(crate) fn by_id(alloc: Global, nodes: &[JobNode]) -> Result<Vec<&JobNode>, O
     for node in nodes {
         sorted.push(node)?;
     }
-    sorted.sort_unstable_by(|a, b| compare(&a.id, &b.id));
+    sorted.sort_unstable_by(|a, b| a.id.cmp(&b.id));
     Ok(sorted)
 }
 

@@ -1,7 +1,7 @@
 ghost use Rattle.std.specs.Prelude.{◌≡◌};
 ghost use Rattle.ap_graph.specs.Waits.{waits_for};
 
-pub(crate) use ap_builder::DepKind;
+pub(crate) use ap_rows::DepKind;
 
 /// Whether a job waits for a dependency of this kind.
 pub(crate) fn waits(kind: DepKind, processed: bool) -> bool

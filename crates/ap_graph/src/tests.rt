@@ -4,7 +4,6 @@ ghost use Rattle.std.specs.List.Sorted.{IsStrictlySortedBy};
 ghost use Rattle.ap_graph.specs.Nodes.{node_cmp, is_node, HasDistinctIds, IsResolved};
 ghost use Rattle.ap_graph.specs.Jobs.{is_job};
 
-use crate::ids::compare;
 use crate::kind::DepKind;
 use crate::{Graph, JobNode, State};
 use ap_text::{JobId, List, Name, OutOfMemory, Platform, RelPath};
@@ -16,7 +15,7 @@ fn rises(nodes: &[JobNode]) -> bool
     ensures { IsTrue result → IsStrictlySortedBy node_cmp nodes.now }
 {
     for at in 1..nodes.len() {
-        if compare(&nodes[at - 1].id, &nodes[at].id).is_ge() {
+        if nodes[at - 1].id >= nodes[at].id {
             return false;
         }
     }
@@ -26,7 +25,7 @@ fn rises(nodes: &[JobNode]) -> bool
 fn has(nodes: &[JobNode], id: &JobId) -> bool
     ensures { IsTrue result → is_node nodes.now id.now ≡ true }
 {
-    nodes.binary_search_by(|node| compare(&node.id, id)).is_ok()
+    nodes.binary_search_by(|node| node.id.cmp(id)).is_ok()
 }
 
 fn has_all(nodes: &[JobNode], edges: &[(DepKind, JobId)]) -> bool

@@ -1,3 +1,5 @@
 pub mod Folding
 pub mod Members
 pub mod Slashes
+pub mod Walking
+pub mod WildExamples

@@ -1,6 +1,9 @@
 pub mod Causes
 pub mod Order
+pub mod JobOrder
 pub mod PathRules
 pub mod PathReading
 pub mod NameRules
 pub mod NameReading
+pub mod Wild
+pub mod Walk

@@ -1,4 +1,4 @@
-//! Texts and names of the Asset Processor: bytes, paths, names, and how a file is seen.
+//! Texts and names of the Asset Processor: bytes, paths, names, patterns, and how a file is seen.
 //!
 //! Nothing here reads a file. A path, a name, a platform and a file name are read from bytes once, by
 //! their grammar, and keep it from then on.
@@ -10,6 +10,7 @@ mod list;
 mod memory;
 mod name;
 mod path;
+mod pattern;
 mod seen;
 #[cfg(test)]
 mod tests;
@@ -20,4 +21,5 @@ pub use list::List;
 pub use memory::OutOfMemory;
 pub use name::{FileName, Name, NameFault, Platform};
 pub use path::{PathFault, RelPath};
+pub use pattern::{some_matches, wild};
 pub use seen::{Seen, Which};

@@ -1,6 +1,6 @@
 use Rattle.std.proofs.Common.{List, subst}
 use Rattle.std.specs.Prelude.{◌≡◌, Some, None}
-use Rattle.ap_builder.specs.declared.job.JobDesc.{JobDesc}
+use Rattle.ap_rows.specs.declared.job.JobDesc.{JobDesc}
 use Rattle.ap_cli.specs.Sources.{Files}
 use Rattle.ap_cli.specs.Layout.{AreApart}
 use Rattle.ap_cli.specs.Work.{files_of}

@@ -1,5 +1,5 @@
 use Rattle.std.proofs.Common.{List, ℕ, ◌∙◌, sym, ap, subst}
-use Rattle.ap_builder.specs.declared.offer.Offer.{Offer}
+use Rattle.ap_config.specs.declared.offer.Offer.{Offer}
 use Rattle.ap_cli.specs.declared.source.Source.{Source}
 use Rattle.ap_cli.specs.Unbuilt.{IsRefused}
 use Rattle.ap_cli.specs.Work.{version_of}

@@ -1,6 +1,6 @@
 use Rattle.std.proofs.Common.{rules}
 use Rattle.std.proofs.lemmas.Fn.{always_returns_same}
-use Rattle.ap_graph.specs.Ids.{job_cmp}
+use Rattle.ap_text.specs.JobOrder.{job_cmp}
 use Rattle.ap_graph.proofs.Knowing.{found_is_node}
 use Rattle.ap_graph.proofs.tests.has.Goals as goal
 

@@ -3,7 +3,7 @@ use Rattle.std.specs.List.Sorted.{IsStrictlySortedBy}
 use Rattle.std.proofs.lemmas.Result.{IfOk-weaker}
 use Rattle.ap_text.specs.declared.job_id.JobId.{JobId}
 use Rattle.ap_graph.specs.declared.node.JobNode.{JobNode}
-use Rattle.ap_graph.specs.Ids.{job_cmp}
+use Rattle.ap_text.specs.JobOrder.{job_cmp}
 use Rattle.ap_graph.specs.Places.{HavePlaces}
 use Rattle.ap_graph.specs.Jobs.{GraphJob, AreNew}
 use Rattle.ap_graph.specs.declared.node.Progress.TheVariants.{Pending}

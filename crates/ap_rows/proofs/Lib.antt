@@ -1,0 +1,4 @@
+pub mod Digits
+pub mod Tests
+pub mod ItemByItem
+pub mod ChangeByItem

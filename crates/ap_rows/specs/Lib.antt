@@ -1,0 +1,6 @@
+pub mod Fields
+pub mod Readers
+pub mod Grammar
+pub mod Spelling
+pub mod GrammarExamples
+pub mod Listing

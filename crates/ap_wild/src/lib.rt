@@ -1,8 +1,0 @@
-//! Patterns on paths.
-#![tactic(auto)]
-
-mod pattern;
-#[cfg(test)]
-mod tests;
-
-pub use pattern::{some_matches, wild};
