@@ -7,7 +7,7 @@ use Rattle.std.specs.Prelude.{is_ok}
 use Rattle.std.specs.declared.cmp.Ordering.{Ordering}
 use Rattle.std.specs.declared.cmp.Ordering.TheVariants.{Less, Equal, Greater}
 use Rattle.std.specs.Ordering.{is_lt, is_eq, ordering_then, ordering_reverse}
-use Rattle.std.proofs.lemmas.Cmp.{nat_list_cmp_total, then_total, on_total, tied_itself}
+use Rattle.std.proofs.lemmas.Cmp.{on_total, tied_itself}
 use Rattle.std.proofs.lemmas.Bool.{true≢false, cases_order, cases_lt}
 use Rattle.std.proofs.lemmas.List.{get_or_default, get_or-map, length-map}
 use Rattle.std.proofs.lemmas.List.Sums.{sum_by-cons}

@@ -4,6 +4,7 @@ use Rattle.std.proofs.lemmas.List.{take_at, drop_at, drop-drop, drop_all, append
 use Rattle.std.proofs.lemmas.Option.{none-some}
 use Rattle.ap_journal.specs.Records.{first_record, with_others, records, standing, size_of, end_of, record_from, record_at}
 use Rattle.ap_journal.specs.State.{IsPlace, length_of}
+use Rattle.ap_journal.specs.Walking.{skip_before, size_behind}
 use Rattle.ap_journal.proofs.Standing.{IsFirst, first_is, unfolded, too_short}
 
 -- behind a first record the others stand
@@ -38,10 +39,6 @@ behind_place file at is =
 pub first_place : (file : List ℕ) → IsPlace file 16
 first_place file = record { before = []; behind = standing file; are = refl; here = refl }
 
-size_behind : (before : List (List ℕ)) (payload : List ℕ) → size_of (before ++ payload ∷ []) ≡ size_of before + (5 + length payload)
-size_behind [] payload = omega arith
-size_behind (first ∷ before) payload = omega (arith, size_behind before payload)
-
 -- behind it is the next place
 pub next_place : (file : List ℕ) (at count : ℕ) → IsPlace file at → Some count ≡ length_of (first_record (drop at file)) → IsPlace file (at + (5 + count))
 next_place file at count is said = by_first (first_record (drop at file)) (unfolded (drop at file)) said
@@ -75,15 +72,6 @@ none_before [] place at lt = refl
 none_before (payload ∷ others) place at lt =
     let no : (place == at) ≡ false = grind (arith, lt) in
     ap (λ (t : Bool). if t then Some (payload, place + 5 + length payload) else record_from others (place + 5 + length payload) at) no ∙ none_before others (place + 5 + length payload) at (omega (arith, lt))
-
--- an offset behind these records is one of the others'
-skip_before : (before behind : List (List ℕ)) (place at : ℕ) → place + size_of before ≤ at → record_from (before ++ behind) place at ≡ record_from behind (place + size_of before) at
-skip_before [] behind place at le = ap (λ (n : ℕ). record_from behind n at) (omega arith)
-skip_before (payload ∷ before) behind place at le =
-    let no : (place == at) ≡ false = grind (arith, le) in
-    ap (λ (t : Bool). if t then Some (payload, place + 5 + length payload) else record_from (before ++ behind) (place + 5 + length payload) at) no
-    ∙ skip_before before behind (place + 5 + length payload) at (omega (arith, le))
-    ∙ ap (λ (n : ℕ). record_from behind n at) (omega arith)
 
 -- the record at an offset no less than a place is one of those behind the place
 at_or_behind : (file : List ℕ) (place at : ℕ) (is : IsPlace file place) → place ≤ at → record_at file at ≡ record_from is.behind place at
