@@ -4,7 +4,7 @@ use Rattle.ap_disk.specs.Calls.{TellsAs}
 use Rattle.ap_journal.specs.Records.{standing}
 use Rattle.ap_journal.specs.Changes.{IsCommitted, frame}
 use Rattle.ap_journal.specs.State.{State, IsPlace, IsFileOf}
-use Rattle.ap_journal.proofs.Told.{onto}
+use Rattle.ap_journal.specs.Told.{onto}
 
 -- the places of the records before are places
 same_place : (old new : List ℕ) (payload : List ℕ) (at : ℕ) → IsPlace old at → standing new ≡ standing old ++ payload ∷ [] → IsPlace new at

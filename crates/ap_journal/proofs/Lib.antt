@@ -1,5 +1,3 @@
-pub mod Between
-pub mod Told
 pub mod Files
 pub mod Standing
 pub mod Laid

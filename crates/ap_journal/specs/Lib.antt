@@ -1,5 +1,9 @@
 pub mod Records
 pub mod Moments
+pub mod Between
+pub mod Told
+pub mod Commits
+pub mod Following
 pub mod Changes
 pub mod State
 pub mod Walking

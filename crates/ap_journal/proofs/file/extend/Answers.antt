@@ -1,7 +1,7 @@
 use Rattle.std.proofs.Common.{List, ℕ, length, IfSome}
 use Rattle.ap_disk.specs.Crashes.{Torn, AfterStep}
 use Rattle.ap_journal.specs.Changes.{Extends}
-use Rattle.ap_journal.proofs.Between.{call, and_on}
+use Rattle.ap_journal.specs.Between.{call, and_on}
 use Rattle.ap_journal.proofs.Files.{extended}
 use Rattle.ap_journal.proofs.file.extend.Goals as goal
 

@@ -1,7 +1,7 @@
 use Rattle.std.proofs.Common.{List, ℕ, IfSome}
 use Rattle.ap_disk.specs.Crashes.{Torn, AfterStep}
 use Rattle.ap_journal.specs.Changes.{HasSomeByteAt}
-use Rattle.ap_journal.proofs.Between.{call, and_on, more}
+use Rattle.ap_journal.specs.Between.{call, and_on, more}
 use Rattle.ap_journal.proofs.Files.{has_byte}
 use Rattle.ap_journal.proofs.file.set_byte.Goals as goal
 

@@ -2,8 +2,8 @@ use Rattle.std.proofs.Common.{◌≡◌, ℕ, ◌-◌, inl, List, ◌++◌, leng
 use Rattle.ap_disk.specs.Calls.{TellsAs}
 use Rattle.ap_journal.specs.Records.{end_of, IsAtRest}
 use Rattle.ap_journal.specs.Changes.{Extends, with_byte, HasSomeByteAt, IsCommitted, IsWithinCommit, frame}
-use Rattle.ap_journal.proofs.Between.{and_on, more}
-use Rattle.ap_journal.proofs.Told.{two, back, across, on_ok}
+use Rattle.ap_journal.specs.Between.{and_on, more}
+use Rattle.ap_journal.specs.Told.{two, back, across, on_ok}
 use Rattle.ap_journal.proofs.Committing.{rest_length, behind_gate, at_gate, committed}
 use Rattle.ap_journal.proofs.journal.commit.Goals as goal
 

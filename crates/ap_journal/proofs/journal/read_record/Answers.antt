@@ -2,7 +2,7 @@ use Rattle.std.proofs.Common.{◌≡◌, ℕ, ◌+◌, ◌≤◌, ◌<◌, List,
 use Rattle.std.specs.Prelude.{Option}
 use Rattle.ap_journal.specs.Records.{record_at}
 use Rattle.ap_journal.specs.State.{IsPlace, length_of}
-use Rattle.ap_journal.proofs.Told.{every, two}
+use Rattle.ap_journal.specs.Told.{every, two}
 use Rattle.ap_journal.proofs.Places.{none_in_header, payload_at}
 use Rattle.ap_journal.proofs.journal.read_record.Goals as goal
 

@@ -3,8 +3,8 @@ use Rattle.ap_disk.specs.Crashes.{Shortened}
 use Rattle.ap_disk.specs.Calls.{TellsAs}
 use Rattle.ap_journal.specs.Records.{end_of, IsSameStore}
 use Rattle.ap_journal.specs.Changes.{with_byte, HasSomeByteAt, IsCleaned, EndsAt}
-use Rattle.ap_journal.proofs.Between.{and_on, more}
-use Rattle.ap_journal.proofs.Told.{two, back, across, on_ok}
+use Rattle.ap_journal.specs.Between.{and_on, more}
+use Rattle.ap_journal.specs.Told.{two, back, across, on_ok}
 use Rattle.ap_journal.proofs.Committing.{cut_behind, gate_behind, cleaned}
 use Rattle.ap_journal.proofs.opening.cut_and_close.Goals as goal
 

@@ -2,8 +2,8 @@ use Rattle.std.proofs.Common.{◌≡◌, ℕ, List, [], ◌∷◌, length, IfSom
 use Rattle.std.specs.Prelude.{Option, Some, None}
 use Rattle.ap_disk.specs.Crashes.{Only}
 use Rattle.ap_journal.specs.Records.{standing, size_of, end_of, IsSameStore}
-use Rattle.ap_journal.proofs.Between.{and_on}
-use Rattle.ap_journal.proofs.Told.{two}
+use Rattle.ap_journal.specs.Between.{and_on}
+use Rattle.ap_journal.specs.Told.{two}
 use Rattle.ap_journal.proofs.opening.open_synced.Goals as goal
 
 nothing_of : (payloads : List (List ℕ)) → size_of payloads ≡ 0 → payloads ≡ []

@@ -3,8 +3,8 @@ use Rattle.ap_disk.specs.Crashes.{Shortened}
 use Rattle.ap_disk.specs.Calls.{TellsAs}
 use Rattle.ap_journal.specs.Records.{standing, IsSameStore}
 use Rattle.ap_journal.specs.Changes.{Extends, IsCleaned}
-use Rattle.ap_journal.proofs.Between.{and_on, more}
-use Rattle.ap_journal.proofs.Told.{two, back, across, on_ok}
+use Rattle.ap_journal.specs.Between.{and_on, more}
+use Rattle.ap_journal.specs.Told.{two, back, across, on_ok}
 use Rattle.ap_journal.proofs.Committing.{cut_to_nothing, header_written, begun_file, first_bytes}
 use Rattle.ap_journal.proofs.opening.renew.Goals as goal
 

@@ -2,8 +2,8 @@ use Rattle.std.proofs.Common.{◌≡◌, ◌≤◌, ◌<◌, ◌⊎◌, inl, inr
 use Rattle.std.specs.Prelude.{Option}
 use Rattle.ap_journal.specs.Records.{first_record, record_at}
 use Rattle.ap_journal.specs.State.{IsPlace, length_of}
-use Rattle.ap_journal.proofs.Between.{and_on}
-use Rattle.ap_journal.proofs.Told.{one, two, where_ok, not_some}
+use Rattle.ap_journal.specs.Between.{and_on}
+use Rattle.ap_journal.specs.Told.{one, two, where_ok, not_some}
 use Rattle.ap_journal.proofs.Places.{next_place, none_past_end, none_here, found_here, passed_here}
 use Rattle.ap_journal.proofs.reading.length_at.Goals as goal
 

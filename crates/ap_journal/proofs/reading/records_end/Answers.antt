@@ -2,9 +2,9 @@ use Rattle.std.proofs.Common.{◌≡◌, ◌<◌, inr, ◌+◌, ℕ, List, None,
 use Rattle.std.specs.Prelude.{Option}
 use Rattle.ap_journal.specs.Records.{first_record, end_of, size_of}
 use Rattle.ap_journal.specs.State.{IsPlace, length_of}
-use Rattle.ap_journal.proofs.Between.{and_on}
+use Rattle.ap_journal.specs.Between.{and_on}
 use Rattle.ap_journal.proofs.Laid.{nothing_stands}
-use Rattle.ap_journal.proofs.Told.{every, two, not_some}
+use Rattle.ap_journal.specs.Told.{every, two, not_some}
 use Rattle.ap_journal.proofs.Places.{next_place, last_place}
 use Rattle.ap_journal.proofs.reading.records_end.Goals as goal
 

@@ -2,7 +2,7 @@ use Rattle.std.proofs.Common.{◌≡◌, ℕ, false, List, Some, length, IfSome,
 use Rattle.std.specs.Prelude.{Option}
 use Rattle.ap_journal.specs.Records.{record_at}
 use Rattle.ap_journal.specs.State.{State, IsPlace, IsFileOf}
-use Rattle.ap_journal.proofs.Told.{two, still_durable}
+use Rattle.ap_journal.specs.Told.{two, still_durable}
 use Rattle.ap_journal.proofs.Places.{place_behind}
 use Rattle.ap_journal.proofs.journal.Journal.record.Goals as goal
 

@@ -23,7 +23,7 @@ ticked None (Some now) before after P ticks ends = ticks
 ticked (Some was) (Some now) before after P ticks ends = elapsed was now before after P ticks ends
 
 -- two runs are one
-joined : (was mid now : ℕ) (before during after : ℕ → List ℕ → Type 0) (P Q R : List ℕ → Type 0) → Elapsed before during P was mid → Elapsed during after Q mid now
+pub joined : (was mid now : ℕ) (before during after : ℕ → List ℕ → Type 0) (P Q R : List ℕ → Type 0) → Elapsed before during P was mid → Elapsed during after Q mid now
     → ((c : List ℕ) → P c → R c) → ((c : List ℕ) → Q c → R c) → Elapsed before after R was now
 joined was mid now before during after P Q R one two in_p in_q = record {
   later = omega (arith, one.later, two.later);
@@ -89,7 +89,7 @@ module _ {D : Type 0} (seen : D → Option (List ℕ)) (may_leave : D → List �
     same_faults = rested.same_faults;
   }
 
-  rests_on : (old mid new : D) → Rests seen may_leave clock left_at room faults old mid → Rests seen may_leave clock left_at room faults mid new → Rests seen may_leave clock left_at room faults old new
+  pub rests_on : (old mid new : D) → Rests seen may_leave clock left_at room faults old mid → Rests seen may_leave clock left_at room faults mid new → Rests seen may_leave clock left_at room faults old new
   rests_on old mid new one two = record {
     same = two.same ∙ one.same;
     crash = λ c left. one.crash c (two.crash c left);
@@ -109,7 +109,7 @@ module _ {D : Type 0} (seen : D → Option (List ℕ)) (may_leave : D → List �
     other = rests old new other;
   }
 
-  rests_still : (old : D) → Rests seen may_leave clock left_at room faults old old
+  pub rests_still : (old : D) → Rests seen may_leave clock left_at room faults old old
   rests_still old = record { same = refl; crash = λ c left. left; moments = still (clock old) (left_at old) (may_leave old); same_room = refl; same_faults = refl }
 
   -- no call at all
