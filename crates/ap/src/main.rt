@@ -1,22 +1,18 @@
-//! `ap`, the Asset Processor. It runs over the current folder, keeps its products in the folder `Cache`, and
-//! ends with the status of its command line.
+//! `ap`, the Asset Processor. It runs over the current folder, keeps its products in the folder `Cache` and
+//! what it processed in the files `ap.store.a` and `ap.store.b`, and ends with the status of its command line.
 #![tactic(auto)]
 
 use ap_builder::Bench;
 use ap_cli::{CopyBuilder, CopyPass, run};
-use ap_disk::{Pair, SureMemoryDisk};
+use ap_disk::{FileDisk, Pair};
 use ap_text::OutOfMemory;
 use ap_tree::{DirCache, DirTree, StdSink};
-use std::alloc::{AllocError, Global};
 use std::env;
 use std::io::{self, ErrorKind};
 use std::process::ExitCode;
 
 /// The status where there is no memory for what a run is handed.
 const OUT_OF_MEMORY: u8 = 8;
-
-/// The least room of a store.
-const STORE_ROOM: usize = 17;
 
 fn main(rt: HostRuntime) -> ExitCode {
     let status = run_here(&rt).unwrap_or(OUT_OF_MEMORY);
@@ -28,7 +24,10 @@ fn run_here(rt: &HostRuntime) -> Result<u8, OutOfMemory> {
     let words = words(rt)?;
     let mut tree = DirTree::new(rt.clone()?, ".")?;
     let mut cache = DirCache::new(rt.clone()?, "Cache")?;
-    let mut store = Pair::new(empty_disk(alloc)?, empty_disk(alloc)?);
+    let mut store = Pair::new(
+        FileDisk::new(rt.clone()?, "ap.store.a")?,
+        FileDisk::new(rt.clone()?, "ap.store.b")?,
+    );
     let mut bench = Bench::new(alloc, CopyPass);
     let mut out = StdSink::new(io::writer(rt));
     let status = run(
@@ -52,8 +51,4 @@ fn words(rt: &HostRuntime) -> Result<Vec<String>, OutOfMemory> {
         Err(error) if error.kind() == ErrorKind::OutOfMemory => Err(OutOfMemory),
         Err(_) => Ok(Vec::new(alloc)),
     }
-}
-
-fn empty_disk(alloc: Global) -> Result<SureMemoryDisk, AllocError> {
-    Ok(SureMemoryDisk::new(vec![in alloc; 0u8; STORE_ROOM]?, 0))
 }

@@ -1,5 +1,5 @@
 -- What is known of the one job of an answer for one platform.
-use Rattle.std.proofs.Common.{◌≡◌, ◌<◌, ℕ, List, [], ◌∷◌, length, Contains, get_or, subst, sym, arith}
+use Rattle.std.proofs.Common.{◌≡◌, ℕ, List, [], ◌∷◌, Contains, get_or, subst, sym, arith}
 use Rattle.ap_rows.specs.declared.job.JobDesc.{JobDesc}
 use Rattle.ap_builder.specs.declared.work.CreateInput.{CreateInput}
 use Rattle.ap_builder.specs.declared.work.CreateAnswer.TheVariants.{Jobs}

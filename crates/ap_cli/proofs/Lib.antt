@@ -1,12 +1,17 @@
 pub mod Apart
 pub mod Between
+pub mod Ending
 pub mod Gaining
 pub mod Gathering
+pub mod Giving
 pub mod Laying
 pub mod OneList
 pub mod OneOf
 pub mod OwnPaths
+pub mod Refusing
 pub mod Rising
 pub mod Running
 pub mod Sorting
+pub mod Sounding
+pub mod Stopping
 pub mod TwoLists

@@ -1,92 +1,95 @@
 -- A run from its parts.
-use Rattle.std.proofs.Common.{◌≡◌, ◌≤◌, ℕ, List, length, drop, refl, sym, ◌∙◌, ap, subst, arith}
+use Rattle.std.proofs.Common.{false, ◌≡◌, ◌⊎◌, inl, inr, ℕ, List, [], length, refl, sym}
 use Rattle.std.specs.Prelude.{Option, Some, None, IfSome}
-use Rattle.std.proofs.lemmas.List.{drop_at}
-use Rattle.ap_builder.specs.declared.entry.Entry.{Entry}
-use Rattle.ap_config.specs.declared.offer.Offer.{Offer}
+use Rattle.ap_journal.specs.Commits.{CommitsAll, CommitsSome}
+use Rattle.ap_journal.specs.State.{State, IsOf}
 use Rattle.ap_builder.specs.declared.work.CreateInput.{CreateInput}
 use Rattle.ap_builder.specs.declared.work.CreateAnswer.{CreateAnswer}
 use Rattle.ap_builder.specs.declared.work.JobInput.{JobInput}
 use Rattle.ap_builder.specs.declared.work.Outcome.{Outcome}
-use Rattle.ap_cli.specs.declared.made.Made.{Made}
-use Rattle.ap_cli.specs.declared.report.Counts.{Counts}
-use Rattle.ap_cli.specs.Sources.{Files, IsSource, AreSources, source_cmp}
-use Rattle.ap_cli.specs.Layout.{AreApart}
-use Rattle.ap_cli.specs.Work.{copy_name, version_of, files_of}
-use Rattle.ap_cli.specs.Unbuilt.{IsUnreadable, no_path, alike, too_large, IsRefused, no_job, no_product, in_the_way, IsUnbuilt, no_copy, unreadable, refused}
+use Rattle.ap_config.specs.declared.offer.Offer.{Offer}
 use Rattle.ap_rows.specs.declared.job.JobDesc.{JobDesc}
 use Rattle.ap_cli.specs.declared.source.Source.{Source}
-use Rattle.ap_cli.proofs.OneList.{Lists-unique, source_cmp_total}
-use Rattle.ap_cli.specs.Lines.{report_lem}
-use Rattle.ap_cli.specs.Making.{Makes}
-use Rattle.ap_cli.specs.Run.{IsWork, Ran, entries_of}
+use Rattle.ap_cli.specs.Recorded.{Last, needed_of, changes_of}
+use Rattle.std.proofs.lemmas.List.{append-nil}
+use Rattle.ap_builder.specs.declared.entry.Entry.{Entry}
+use Rattle.ap_builder.specs.declared.product.Product.{Product}
+use Rattle.ap_cli.specs.Run.{WorksOn, Asked, AreNext, AreFirst}
+use Rattle.ap_cli.specs.Sources.{Files, AreSources}
+use Rattle.ap_cli.specs.Store.{Gave}
+use Rattle.ap_cli.specs.Unbuilt.{IsUnreadable, IsRefused, IsUnbuilt, no_copy, unreadable, refused}
+use Rattle.ap_cli.specs.Work.{copy_name, version_of, jobs_of}
+use Rattle.ap_cli.proofs.Stopping.{each, opened_at}
 
-module _ (creates : List ℕ → CreateInput → CreateAnswer) (makes : JobInput → Outcome) (offers : List Offer) (folder : List ℕ)
-    (made : Made) (bench bench' gained : List Entry) (Laid : Files → Type 0) (Told : List ℕ → Type 0)
-    (laid : Laid made.files.items) (told : Told (report_lem gained made.counts))
-    (are : gained ≡ drop (length bench) bench') where
-  ran : (files : Files) → Makes creates makes offers folder files made bench bench' → Ran creates makes offers folder files bench bench' Laid Told
-  ran files m = record {
-    version = m.version;
-    offered = m.offered;
-    sources = m.sources;
-    found = m.found;
-    jobs = m.asked.jobs;
-    put = made.files.items;
-    work = m.asked.work;
-    asked = m.asked.asked;
-    laid = laid;
-    told = subst (λ (c : Counts). Told (report_lem (entries_of m.sources m.asked.jobs) c)) m.asked.counts
-        (subst (λ (l : List Entry). Told (report_lem l made.counts)) entries told);
+module _ {D : Type 0} (seen : D → Option (List ℕ)) (may_leave : D → List ℕ → Type 0) (clock : D → Option ℕ) (left_at : D → ℕ → List ℕ → Type 0) (room faults : D → ℕ) where
+  -- nothing was given
+  pub gave_nothing : (journal : State) (store : D × D) (P : List (List ℕ) → Type 0) → IsOf seen may_leave room journal store → journal.spent ≡ false →
+      Gave seen may_leave clock left_at room faults store store (λ given. (given ≡ []) ⊎ P given)
+  gave_nothing journal store P is fresh = record {
+    given = [];
+    answered = 0;
+    commits = (opened_at seen may_leave clock left_at room faults journal store is fresh).commits;
+    first = inl refl;
+  }
+
+  -- the first records of these sources
+  pub gave_next : (creates : List ℕ → CreateInput → CreateAnswer) (makes : JobInput → Outcome) (version : ℕ) (needed : List Source) (jobs : List JobDesc) (old new : D × D) →
+      jobs_of creates version needed ≡ Some jobs → CommitsSome seen may_leave clock left_at room faults old new (changes_of makes version needed jobs) →
+      Gave seen may_leave clock left_at room faults old new (λ given. (given ≡ []) ⊎ AreNext creates makes version needed given)
+  gave_next creates makes version needed jobs old new created some = record {
+    given = some.given;
+    answered = some.answered;
+    commits = some.commits;
+    first = inr (record { jobs = jobs; created = created; rest = some.rest; front = some.front });
+  }
+
+  -- they are the first records of a run
+  pub gave_first : (creates : List ℕ → CreateInput → CreateAnswer) (makes : JobInput → Outcome) (offers : List Offer) (folder : List ℕ) (last : Last) (tree : Option Files) (version : ℕ) (sources : List Source) (old new : D × D) →
+      version_of offers copy_name ≡ Some version → IfSome tree (λ files. AreSources folder files sources) →
+      Gave seen may_leave clock left_at room faults old new (λ given. (given ≡ []) ⊎ AreNext creates makes version (needed_of version last sources) given) →
+      Gave seen may_leave clock left_at room faults old new (λ given. (given ≡ []) ⊎ IfSome tree (AreFirst creates makes offers folder given last))
+  gave_first creates makes offers folder last tree version sources old new offered found gave = record {
+    given = gave.given;
+    answered = gave.answered;
+    commits = gave.commits;
+    first = widened gave.first;
   }
     where
-      entries : gained ≡ entries_of m.sources m.asked.jobs
-      entries = are ∙ ap (drop (length bench)) m.asked.asked ∙ drop_at bench (entries_of m.sources m.asked.jobs) (length bench) refl
+      widened : {given : List (List ℕ)} → (given ≡ []) ⊎ AreNext creates makes version (needed_of version last sources) given → (given ≡ []) ⊎ IfSome tree (AreFirst creates makes offers folder given last)
+      widened (inl none_given) = inl none_given
+      widened {given} (inr next) = inr (each tree (λ files. AreSources folder files sources) (AreFirst creates makes offers folder given last) found
+          (λ files are. record { version = version; sources = sources; on = record { offered = offered; found = are }; next = next }))
 
-  pub ran_where_told : (tree : Option Files) → IfSome tree (λ files. Makes creates makes offers folder files made bench bench') →
-      IfSome tree (λ files. Ran creates makes offers folder files bench bench' Laid Told)
-  ran_where_told None m = tt
-  ran_where_told (Some files) m = ran files m
+  -- all of them
+  pub gave_all : (creates : List ℕ → CreateInput → CreateAnswer) (makes : JobInput → Outcome) (offers : List Offer) (folder : List ℕ) (last : Last) (tree : Option Files) (version : ℕ) (sources : List Source) (made : List Product) (bench bench' : List Entry) (old new : D × D) →
+      IfSome tree (λ files. WorksOn offers folder files version sources) →
+      Asked creates makes version (needed_of version last sources) made bench bench' (CommitsAll seen may_leave clock left_at room faults old new) →
+      Gave seen may_leave clock left_at room faults old new (λ given. (given ≡ []) ⊎ IfSome tree (AreFirst creates makes offers folder given last))
+  gave_all creates makes offers folder last tree version sources made bench bench' old new on asked = record {
+    given = changes_of makes version (needed_of version last sources) asked.jobs;
+    answered = length (changes_of makes version (needed_of version last sources) asked.jobs);
+    commits = asked.kept.commits;
+    first = inr (each tree (λ files. WorksOn offers folder files version sources) (AreFirst creates makes offers folder (changes_of makes version (needed_of version last sources) asked.jobs) last) on
+        (λ files works. record {
+          version = version;
+          sources = sources;
+          on = works;
+          next = record { jobs = asked.jobs; created = asked.work.created; rest = []; front = sym (append-nil (changes_of makes version (needed_of version last sources) asked.jobs)) };
+        }));
+  }
 
--- where the work is done, nothing keeps it from being done
-module _ (creates : List ℕ → CreateInput → CreateAnswer) (makes : JobInput → Outcome) (offers : List Offer) (folder : List ℕ) (files : Files)
-    (version : ℕ) (sources : List Source) (jobs : List JobDesc) (put : Files)
-    (offered : version_of offers copy_name ≡ Some version) (found : AreSources folder files sources) (work : IsWork creates makes version sources jobs put) where
-  not_refused : IsRefused creates makes version sources → ⊥
-  not_refused (no_job none) = cc (work.created)
-  not_refused (no_product jobs' created none) =
-      let same : jobs' ≡ jobs = cc (work.created) in
-      cc (work.made, ap (files_of makes sources) same)
-  not_refused (in_the_way jobs' put' created made met) =
-      let same : jobs' ≡ jobs = cc (work.created) in
-      let same_put : put' ≡ put = cc (work.made, ap (files_of makes sources) same) in
-      met (subst AreApart (sym same_put) work.apart)
-
-  not_unreadable : IsUnreadable folder files → ⊥
-  not_unreadable (no_path unread) = unread found.readable
-  not_unreadable (alike twice) = twice found.own
-  not_unreadable (too_large name bytes listed has large) = let small : length bytes ≤ 4194304 = found.small name bytes listed has in omega arith
-
-  pub not_unbuilt : IsUnbuilt creates makes offers folder files → ⊥
-  not_unbuilt (no_copy none) = cc offered
-  not_unbuilt (unreadable why) = not_unreadable why
-  not_unbuilt (refused version' sources' offered' found' why) =
-      let same : version' ≡ version = cc offered in
-      let one : sources' ≡ sources = Lists-unique source_cmp source_cmp_total (IsSource folder files) sources' sources found'.lists found.lists in
-      not_refused (subst (λ (v : ℕ). IsRefused creates makes v sources) same (subst (IsRefused creates makes version') one why))
-
-module _ (creates : List ℕ → CreateInput → CreateAnswer) (makes : JobInput → Outcome) (offers : List Offer) (folder : List ℕ) where
-  pub not_unbuilt_where_told : (tree : Option Files) (made : Made) (bench bench' : List Entry) →
-      IfSome tree (λ files. Makes creates makes offers folder files made bench bench') → IfSome tree (λ files. ¬ IsUnbuilt creates makes offers folder files)
-  not_unbuilt_where_told None made bench bench' m = tt
-  not_unbuilt_where_told (Some files) made bench bench' m = λ why.
-      not_unbuilt creates makes offers folder files m.version m.sources m.asked.jobs made.files.items m.offered m.found m.asked.work why
-
-  pub unreadable_where_told : (tree : Option Files) → IfSome tree (IsUnreadable folder) → IfSome tree (IsUnbuilt creates makes offers folder)
-  unreadable_where_told None why = tt
-  unreadable_where_told (Some files) why = unreadable why
+module _ (creates : List ℕ → CreateInput → CreateAnswer) (makes : JobInput → Outcome) (offers : List Offer) (folder : List ℕ) (last : Last) where
+  pub unfound_where_told : (tree : Option Files) → (version_of offers copy_name ≡ None) ⊎ IfSome tree (IsUnreadable folder) → IfSome tree (IsUnbuilt creates makes offers folder last)
+  unfound_where_told None why = tt
+  unfound_where_told (Some files) (inl none_offered) = no_copy none_offered
+  unfound_where_told (Some files) (inr why) = unreadable why
 
   pub refused_where_told : (tree : Option Files) (version : ℕ) (sources : List Source) → version_of offers copy_name ≡ Some version →
-      IfSome tree (λ files. AreSources folder files sources) → IsRefused creates makes version sources → IfSome tree (IsUnbuilt creates makes offers folder)
+      IfSome tree (λ files. AreSources folder files sources) → IsRefused creates makes version last sources → IfSome tree (IsUnbuilt creates makes offers folder last)
   refused_where_told None version sources offered found why = tt
-  refused_where_told (Some files) version sources offered found why = refused version sources offered found why
+  refused_where_told (Some files) version sources offered found why = refused version sources (record { offered = offered; found = found }) why
+
+  pub works_where_told : (tree : Option Files) (version : ℕ) (sources : List Source) → version_of offers copy_name ≡ Some version →
+      IfSome tree (λ files. AreSources folder files sources) → IfSome tree (λ files. WorksOn offers folder files version sources)
+  works_where_told None version sources offered found = tt
+  works_where_told (Some files) version sources offered found = record { offered = offered; found = found }

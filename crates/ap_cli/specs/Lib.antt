@@ -5,11 +5,13 @@ pub mod Steps
 pub mod Layout
 pub mod Neighbours
 pub mod Work
+pub mod Recorded
+pub mod Soundness
 pub mod Overlay
 pub mod Output
 pub mod Lines
 pub mod Run
-pub mod Making
+pub mod Store
 pub mod Unbuilt
 pub mod Refusals
 pub mod CopyBuilder

@@ -1,16 +1,21 @@
 -- The status and the line of each refusal.
-use Rattle.std.specs.Prelude.{◌≡◌, ◌⊎◌, ℕ, List, [], ◌∷◌, ◌++◌, Option, codes}
+use Rattle.std.specs.Prelude.{◌≡◌, ◌⊎◌, ℕ, List, [], ◌∷◌, ◌++◌, Option, codes, decimal}
 use Rattle.ap_tree.specs.Written.{Gains}
+use Rattle.ap_work.specs.declared.fault.WorkFault.{WorkFault}
+use Rattle.ap_work.specs.declared.fault.WorkFault.TheVariants.{OutOfMemory, DiskFault, BadRecord, Full as WorkFull}
 use Rattle.ap_cli.specs.Output.{GainsFront}
 use Rattle.ap_cli.specs.declared.stop.Stop.{Stop}
-use Rattle.ap_cli.specs.declared.stop.Stop.TheVariants.{Usage, Tree, Cache, Output, Memory, Unbuilt}
+use Rattle.ap_cli.specs.declared.stop.Stop.TheVariants.{Usage, Tree, Cache, Disk, Output, Memory, BadStore, Full, Unbuilt}
 
 abbrev pub status_of : Stop → ℕ
 status_of Usage = 2
 status_of Tree = 4
 status_of Cache = 5
+status_of Disk = 6
 status_of Output = 7
 status_of Memory = 8
+status_of (BadStore n) = 9
+status_of (Full length wanted) = 11
 status_of Unbuilt = 13
 
 -- the line that is written; none for a fault of the sink
@@ -18,13 +23,24 @@ abbrev pub refusal_line : Stop → List ℕ
 refusal_line Usage = codes "ap: usage: ap batch CONFIG [--jobs N], ap serve CONFIG PORT, ap catalog PLATFORM ASSET, ap soak N" ++ 10 ∷ []
 refusal_line Tree = codes "ap: tree fault" ++ 10 ∷ []
 refusal_line Cache = codes "ap: cache fault" ++ 10 ∷ []
+refusal_line Disk = codes "ap: disk fault" ++ 10 ∷ []
 refusal_line Output = []
 refusal_line Memory = codes "ap: out of memory" ++ 10 ∷ []
+refusal_line (BadStore n) = codes "ap: bad store: record " ++ (decimal n ++ codes " offset 0\n")
+refusal_line (Full length wanted) = codes "ap: store full: length " ++ (decimal length ++ (codes " wanted " ++ (decimal wanted ++ codes "\n")))
 refusal_line Unbuilt = codes "ap: unbuilt" ++ 10 ∷ []
 
--- a refusal of this status has written its line, whole or, where the sink's count rose, a front of it
-pub record Refuses (status : ℕ) (before now : Option (List ℕ)) (Rose : Type 0) : Type 0 where
+-- what a refusal of the journal of work makes of a run
+abbrev pub of_work : WorkFault → Stop
+of_work OutOfMemory = Memory
+of_work DiskFault = Disk
+of_work (BadRecord n) = BadStore n
+of_work (WorkFull length wanted) = Full length wanted
+
+-- a refusal of this status, for a reason with this cause, has written its line, whole or, where the sink's count rose, a front of it
+pub record Refuses (status : ℕ) (before now : Option (List ℕ)) (Rose : Type 0) (IsCaused : Stop → Type 0) : Type 0 where
   pub stop : Stop
   pub status_is : status ≡ status_of stop
+  pub caused : IsCaused stop
   pub front : GainsFront before now (refusal_line stop)
   pub whole : Gains before now (refusal_line stop) ⊎ Rose

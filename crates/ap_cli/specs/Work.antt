@@ -14,8 +14,6 @@ use Rattle.ap_builder.specs.declared.work.Outcome.{Outcome}
 use Rattle.ap_builder.specs.declared.work.Outcome.TheVariants.{Done, Failed as OutcomeFailed}
 use Rattle.ap_builder.specs.Work.{job_of}
 use Rattle.ap_cli.specs.declared.source.Source.{Source}
-use Rattle.ap_cli.specs.Sources.{Files}
-use Rattle.ap_cli.specs.Layout.{cache_file}
 use Rattle.ap_cli.specs.Steps.{with_all}
 
 abbrev pub copy_name : List ℕ
@@ -77,17 +75,12 @@ only_product (Done []) = None
 only_product (Done (product ∷ more ∷ products)) = None
 only_product (OutcomeFailed code) = None
 
--- the product of a source as the cache has it
-abbrev pub file_of : Source → Option Product → Option (List ℕ × List ℕ)
-file_of source None = None
-file_of source (Some product) = Some (cache_file source product)
-
--- the products of all jobs as the cache has them, where each job makes just one
-abbrev pub files_of : (JobInput → Outcome) → List Source → List JobDesc → Option Files
-files_of makes [] jobs = Some []
-files_of makes (source ∷ sources) [] = Some []
-files_of makes (source ∷ sources) (job ∷ jobs) =
-    with_all (file_of source (only_product (makes (process_input source job)))) (files_of makes sources jobs)
+-- the products of all jobs, where each job makes just one
+abbrev pub products_of : (JobInput → Outcome) → List Source → List JobDesc → Option (List Product)
+products_of makes [] jobs = Some []
+products_of makes (source ∷ sources) [] = Some []
+products_of makes (source ∷ sources) (job ∷ jobs) =
+    with_all (only_product (makes (process_input source job))) (products_of makes sources jobs)
 
 -- a create for each source
 abbrev pub create_entries : List Source → List Entry

@@ -5,8 +5,8 @@ ghost use Rattle.ap_tree.specs.Changes.{TellsAs};
 ghost use Rattle.ap_cli.specs.Overlay.{Overlays, LaidAllButOne};
 ghost use Rattle.ap_cli.specs.declared.stop.Stop.TheVariants.{Cache, Memory};
 
+use crate::layout::CacheFile;
 use crate::stop::Stop;
-use ap_text::Bytes;
 use ap_tree::{CacheDir, CacheFault};
 use std::alloc::Global;
 
@@ -14,7 +14,7 @@ use std::alloc::Global;
 pub(crate) fn write_all<C: CacheDir>(
     alloc: Global,
     cache: &mut C,
-    files: &[(Bytes, Bytes)],
+    files: &[CacheFile<'_>],
 ) -> Result<(), Stop>
     requires { has_distinct_paths files.now ≡ true }
     ensures put { OnOk result (TellsAs (C.files cache.old) (C.files cache.new) (Overlays files.now)) }
@@ -25,7 +25,7 @@ pub(crate) fn write_all<C: CacheDir>(
 {
     let mut rest = files;
     while let [file, after @ ..] = rest {
-        match cache.write(alloc, file.0.as_slice(), file.1.as_slice()) {
+        match cache.write(alloc, file.path(), file.bytes()) {
             Ok(()) => rest = after,
             Err(CacheFault::Failed) => return Err(Stop::Cache),
             Err(CacheFault::OutOfMemory) => return Err(Stop::Memory),

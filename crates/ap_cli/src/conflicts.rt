@@ -2,12 +2,13 @@ ghost use Rattle.std.specs.Prelude.{◌≡◌, ◌++◌, ◌∷◌, [], nat_eq, 
 ghost use Rattle.ap_cli.specs.Layout.{AreApart, closed};
 ghost use Rattle.ap_cli.specs.Neighbours.{has_front_next, front_of_next};
 
+use crate::layout::CacheFile;
 use ap_text::{Bytes, OutOfMemory};
 use std::alloc::Global;
 
 /// Whether no two files are in each other's way. It sorts the paths, each closed by a slash: a path that is
 /// another one or a folder of it then stands right before one that it begins.
-pub(crate) fn are_apart(alloc: Global, files: &[(Bytes, Bytes)]) -> Result<bool, OutOfMemory>
+pub(crate) fn are_apart(alloc: Global, files: &[CacheFile<'_>]) -> Result<bool, OutOfMemory>
     ensures apart { IfOk result (λ apart. IsTrue apart → AreApart files.now) }
     ensures met { IfOk result (λ apart. apart ≡ false → ¬ AreApart files.now) }
 {
@@ -17,22 +18,22 @@ pub(crate) fn are_apart(alloc: Global, files: &[(Bytes, Bytes)]) -> Result<bool,
 }
 
 /// The paths, each closed by a slash.
-fn close_all(alloc: Global, files: &[(Bytes, Bytes)]) -> Result<Vec<Bytes>, OutOfMemory>
+fn close_all(alloc: Global, files: &[CacheFile<'_>]) -> Result<Vec<Bytes>, OutOfMemory>
     ensures { IfOk result (λ paths. paths.items ≡ map (λ file. closed file.0) files.now) }
 {
     let mut paths = Vec::with_capacity(alloc, files.len())?;
     let mut rest = files;
     while let [file, after @ ..] = rest {
-        paths.push(close(alloc, &file.0)?)?;
+        paths.push(close(alloc, file.path())?)?;
         rest = after;
     }
     Ok(paths)
 }
 
-fn close(alloc: Global, path: &Bytes) -> Result<Bytes, OutOfMemory>
+fn close(alloc: Global, path: &[u8]) -> Result<Bytes, OutOfMemory>
     ensures { IfOk result (λ whole. whole ≡ closed path.now) }
 {
-    let mut whole = path.as_slice().to_vec(alloc)?;
+    let mut whole = path.to_vec(alloc)?;
     whole.push(b'/')?;
     Ok(Bytes::of(whole))
 }

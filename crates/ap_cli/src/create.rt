@@ -1,4 +1,4 @@
-ghost use Rattle.std.specs.Prelude.{◌≡◌, ◌⊎◌, ◌++◌, ◌∷◌, [], IsTrue, IfOk, IfErr, OnOk, Some, None};
+ghost use Rattle.std.specs.Prelude.{◌≡◌, ◌⊎◌, ◌++◌, ◌∷◌, [], map, IsTrue, IfOk, IfErr, OnOk, Some, None};
 ghost use Rattle.ap_builder.specs.Offers.{is_offered};
 ghost use Rattle.ap_builder.specs.declared.entry.Entry.TheVariants.{Create};
 ghost use Rattle.ap_cli.specs.Work.{copy_name, create_input, only_job, jobs_of, create_entries};
@@ -18,13 +18,13 @@ pub(crate) fn create_all<B: Builders>(
     bench: &mut Bench<B::Pass>,
     copy: &Name,
     version: u32,
-    sources: &[Source],
+    sources: &[&Source],
 ) -> Result<Vec<JobDesc>, Stop>
     requires name { copy.now ≡ copy_name }
     requires offered { IsTrue (is_offered (B.offers builders.now) copy.now) }
-    ensures jobs { IfOk result (λ jobs. jobs_of B.creates version sources.now ≡ Some jobs.items) }
-    ensures noted { OnOk result (bench.new ≡ bench.old ++ create_entries sources.now) }
-    ensures unbuilt { IfErr result (λ stop. stop ≡ Unbuilt → jobs_of B.creates version sources.now ≡ None) }
+    ensures jobs { IfOk result (λ jobs. jobs_of B.creates version (map (λ source. source.now) sources.now) ≡ Some jobs.items) }
+    ensures noted { OnOk result (bench.new ≡ bench.old ++ create_entries (map (λ source. source.now) sources.now)) }
+    ensures unbuilt { IfErr result (λ stop. stop ≡ Unbuilt → jobs_of B.creates version (map (λ source. source.now) sources.now) ≡ None) }
     ensures only { IfErr result (λ stop. (stop ≡ Memory) ⊎ (stop ≡ Unbuilt)) }
 {
     let mut jobs = Vec::with_capacity(alloc, sources.len())?;

@@ -15,6 +15,7 @@ mod make;
 mod names;
 mod output;
 mod process;
+mod recorded;
 mod report;
 mod source;
 mod stop;

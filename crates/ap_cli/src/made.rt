@@ -1,10 +1,11 @@
-use crate::report::Counts;
-use ap_text::Bytes;
+use crate::source::Source;
+use ap_builder::Product;
 
-/// What came of the work: the products, each with its path in the cache and its bytes, and the counts of the
-/// report.
+/// What came of the work: the version of the builder, the folder's files by path, and the products of those
+/// that were needed, in their order.
 #[derive(Drop)]
 pub struct Made {
-    pub files: Vec<(Bytes, Bytes)>,
-    pub counts: Counts,
+    pub version: u32,
+    pub sources: Vec<Source>,
+    pub products: Vec<Product>,
 }

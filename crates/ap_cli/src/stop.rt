@@ -1,9 +1,10 @@
-ghost use Rattle.std.specs.Prelude.{◌≡◌};
-ghost use Rattle.ap_cli.specs.declared.stop.Stop.TheVariants.{Memory};
-ghost use Rattle.ap_cli.specs.Refusals.{status_of, refusal_line};
+ghost use Rattle.std.specs.Prelude.{◌≡◌, ◌≢◌, ◌++◌, codes, decimal, IfOk, IfErr};
+ghost use Rattle.ap_cli.specs.declared.stop.Stop.TheVariants.{Memory, Output};
+ghost use Rattle.ap_cli.specs.Refusals.{status_of, refusal_line, of_work};
 
 use ap_text::OutOfMemory;
-use std::alloc::{AllocError, AllocFailed};
+use ap_work::WorkFault;
+use std::alloc::{AllocError, AllocFailed, Global};
 
 /// Why a run ends before its report is written.
 #[derive(Clone, Copy, Debug, PartialEq, Eq)]
@@ -14,9 +15,16 @@ pub enum Stop {
     Tree,
     /// The cache failed.
     Cache,
+    /// A disk of the store failed.
+    Disk,
     /// The sink failed.
     Output,
     Memory,
+    /// The record of this number, from 1 on, isn't one of work; 0 where records stand in a file with another
+    /// mark.
+    BadStore { record: u64 },
+    /// The next record doesn't fit: the store's file has `length` bytes, and the record takes `wanted`.
+    Full { length: u64, wanted: u64 },
     /// The work needs what isn't built yet.
     Unbuilt,
 }
@@ -34,23 +42,67 @@ impl Stop {
             Stop::Usage => 2,
             Stop::Tree => 4,
             Stop::Cache => 5,
+            Stop::Disk => 6,
             Stop::Output => 7,
             Stop::Memory => 8,
+            Stop::BadStore { .. } => 9,
+            Stop::Full { .. } => 11,
             Stop::Unbuilt => 13,
         }
     }
 
     /// The line that is written, with its line feed; none where the sink failed.
-    pub fn line(self) -> &'static [u8]
-        ensures { result.now ≡ refusal_line self }
+    pub fn line(self, alloc: Global) -> Result<Vec<u8>, OutOfMemory>
+        ensures line { IfOk result (λ line. line.items ≡ refusal_line self) }
+        ensures quiet { IfErr result (λ _. self ≢ Output) }
     {
-        match self {
-            Stop::Usage => USAGE,
-            Stop::Tree => b"ap: tree fault\n",
-            Stop::Cache => b"ap: cache fault\n",
-            Stop::Output => b"",
-            Stop::Memory => b"ap: out of memory\n",
-            Stop::Unbuilt => b"ap: unbuilt\n",
+        let line = match self {
+            Stop::Usage => USAGE.to_vec(alloc)?,
+            Stop::Tree => b"ap: tree fault\n".to_vec(alloc)?,
+            Stop::Cache => b"ap: cache fault\n".to_vec(alloc)?,
+            Stop::Disk => b"ap: disk fault\n".to_vec(alloc)?,
+            Stop::Output => Vec::new(alloc),
+            Stop::Memory => OUT_OF_MEMORY.to_vec(alloc)?,
+            Stop::BadStore { record } => bad_store(alloc, record)?,
+            Stop::Full { length, wanted } => store_full(alloc, length, wanted)?,
+            Stop::Unbuilt => b"ap: unbuilt\n".to_vec(alloc)?,
+        };
+        Ok(line)
+    }
+}
+
+/// The line for want of memory, which takes none.
+pub(crate) const OUT_OF_MEMORY: &[u8] = b"ap: out of memory\n";
+
+fn bad_store(alloc: Global, number: u64) -> Result<Vec<u8>, OutOfMemory>
+    ensures { IfOk result (λ line. line.items ≡ codes "ap: bad store: record " ++ (decimal number ++ codes " offset 0\n")) }
+{
+    let mut line = b"ap: bad store: record ".to_vec(alloc)?;
+    line.extend_from_slice(number.to_string(alloc)?.as_bytes())?;
+    line.extend_from_slice(b" offset 0\n")?;
+    Ok(line)
+}
+
+fn store_full(alloc: Global, length: u64, wanted: u64) -> Result<Vec<u8>, OutOfMemory>
+    ensures { IfOk result (λ line. line.items ≡ codes "ap: store full: length " ++ (decimal length ++ (codes " wanted " ++ (decimal wanted ++ codes "\n")))) }
+{
+    let mut line = b"ap: store full: length ".to_vec(alloc)?;
+    line.extend_from_slice(length.to_string(alloc)?.as_bytes())?;
+    line.extend_from_slice(b" wanted ")?;
+    line.extend_from_slice(wanted.to_string(alloc)?.as_bytes())?;
+    line.push(b'\n')?;
+    Ok(line)
+}
+
+impl From<WorkFault> for Stop {
+    ghost from_gives = { λ fault stop. stop ≡ of_work fault };
+
+    fn from(fault: WorkFault) -> Stop {
+        match fault {
+            WorkFault::OutOfMemory => Stop::Memory,
+            WorkFault::DiskFault => Stop::Disk,
+            WorkFault::BadRecord { record } => Stop::BadStore { record },
+            WorkFault::Full { length, wanted } => Stop::Full { length, wanted },
         }
     }
 }

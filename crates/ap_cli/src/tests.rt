@@ -1,6 +1,6 @@
 use crate::{CopyBuilder, CopyPass, run, run_in_memory};
 use ap_builder::Bench;
-use ap_disk::{Pair, SureMemoryDisk};
+use ap_disk::{MemoryDisk, Pair, Side, SureMemoryDisk};
 use ap_text::Bytes;
 use ap_tree::{
     MemoryCache, MemorySink, MemoryTree, SureMemoryCache, SureMemorySink, SureMemoryTree,
@@ -9,6 +9,11 @@ use ap_tree::{
 use std::alloc::Global;
 use std::process::Abort;
 use std::test::Fail;
+
+/// Room for all records of these tests.
+const ROOM: usize = 4096;
+
+const FILLS: [u8; 4] = [0, 1, 7, 255];
 
 /// What a run left: its status, its output, the cache's files and how many entries the bench gained.
 #[derive(Drop)]
@@ -19,13 +24,21 @@ struct Left {
     entries: usize,
 }
 
-/// The calls that fail of each object, by their numbers.
+/// The call that fails of each object, by its number.
 #[derive(Clone, Copy)]
 struct Failing {
     tree: Option<u64>,
     cache: Option<u64>,
+    disk: Option<u64>,
     sink: Option<u64>,
 }
+
+const NONE: Failing = Failing {
+    tree: None,
+    cache: None,
+    disk: None,
+    sink: None,
+};
 
 fn listed(alloc: Global, number: Option<u64>) -> Result<Vec<u64>, Fail> {
     let mut numbers = Vec::new(alloc);
@@ -53,11 +66,28 @@ fn spoken(alloc: Global, words: &[&str]) -> Result<Vec<String>, Fail> {
     Ok(all)
 }
 
+/// A pair of disks in memory with room for so many bytes, the first of which has these.
+fn pair(
+    rt: &(impl Abort + AllocGlobal),
+    bytes: &[u8],
+    room: usize,
+    failing: Option<u64>,
+) -> Result<Pair<MemoryDisk>, Fail> {
+    let alloc = rt.alloc();
+    assert!(rt; 17 <= room && room <= ROOM && bytes.len() <= room);
+    let bytes = bytes.to_vec(alloc)?;
+    let a = MemoryDisk::new(alloc, bytes, room, 200, ROOM, listed(alloc, failing)?)?;
+    let b = MemoryDisk::new(alloc, Vec::new(alloc), ROOM, 200, 0, Vec::new(alloc))?;
+    Ok(Pair::new(a, b))
+}
+
+/// Runs the words over these files and this cache, with a store.
 fn left_by(
     rt: &(impl Abort + AllocGlobal),
     words: &[&str],
     tree: &[(&str, &str)],
     cache: &[(&str, &str)],
+    store: &mut Pair<MemoryDisk>,
     failing: &Failing,
 ) -> Result<Left, Fail> {
     let alloc = rt.alloc();
@@ -68,9 +98,6 @@ fn left_by(
     assert!(rt; are_distinct(&held));
     let mut tree = MemoryTree::of(sources, listed(alloc, failing.tree)?);
     let mut cache = MemoryCache::of(held, listed(alloc, failing.cache)?);
-    let a = SureMemoryDisk::new(vec![in alloc; 0u8; 17]?, 0);
-    let b = SureMemoryDisk::new(vec![in alloc; 0u8; 17]?, 0);
-    let mut store = Pair::new(a, b);
     let mut bench = Bench::new(alloc, CopyPass);
     let mut out = MemorySink::new(vec![in alloc; 0u8; 4096]?, listed(alloc, failing.sink)?);
     let status = run(
@@ -78,7 +105,7 @@ fn left_by(
         &words,
         &mut tree,
         &mut cache,
-        &mut store,
+        store,
         &CopyBuilder,
         &mut bench,
         &mut out,
@@ -97,11 +124,13 @@ fn left_by(
     })
 }
 
-/// A command line over a folder of the tree, with the calls that fail, and what comes of it.
-#[derive(Drop)]
+/// A command line over a folder of the tree and a store, with the calls that fail, and what comes of it.
+#[derive(Clone, Copy)]
 struct Row {
     words: &'static [&'static str],
     tree: &'static [(&'static str, &'static str)],
+    store: &'static [u8],
+    room: usize,
     failing: Failing,
     status: u8,
     output: &'static str,
@@ -131,259 +160,190 @@ const MADE: &[(&str, &str)] = &[
 
 const HALF_MADE: &[(&str, &str)] = &[("pc/a.txt", "1\n"), ("pc/other.bin", "kept")];
 
+/// A run of `batch game` over two files that is refused before its first entry.
+const REFUSED: Row = Row {
+    words: &["batch", "game"],
+    tree: TWO,
+    store: b"",
+    room: ROOM,
+    failing: NONE,
+    status: 13,
+    output: "ap: unbuilt\n",
+    cache: HELD,
+    entries: 0,
+};
+
+/// A run of `batch game` over two files to its end.
+const WHOLE: Row = Row {
+    status: 0,
+    output: REPORT,
+    cache: MADE,
+    entries: 4,
+    ..REFUSED
+};
+
+fn usage(words: &'static [&'static str]) -> Row {
+    Row {
+        words,
+        tree: &[],
+        status: 2,
+        output: USAGE,
+        ..REFUSED
+    }
+}
+
 fn rows_of_words() -> [Row; 9] {
     [
-        Row {
-            words: &["batch", "game"],
-            tree: TWO,
-            failing: Failing {
-                tree: None,
-                cache: None,
-                sink: None,
-            },
-            status: 0,
-            output: REPORT,
-            cache: MADE,
-            entries: 4,
-        },
+        WHOLE,
         Row {
             words: &["batch", "nothing"],
-            tree: TWO,
-            failing: Failing {
-                tree: None,
-                cache: None,
-                sink: None,
-            },
-            status: 0,
             output: "sources 0 jobs 0 done 0 published 0 shadowed 0 wrote 0 removed 0\nok\n",
             cache: HELD,
             entries: 0,
+            ..WHOLE
         },
         Row {
-            words: &["batch", "game"],
             tree: &[("game/A.txt", "1"), ("game/a.txt", "1")],
-            failing: Failing {
-                tree: None,
-                cache: None,
-                sink: None,
-            },
-            status: 13,
-            output: "ap: unbuilt\n",
-            cache: HELD,
-            entries: 0,
+            ..REFUSED
         },
         Row {
-            words: &["batch", "game"],
             tree: &[("game/a\\b", "1")],
-            failing: Failing {
-                tree: None,
-                cache: None,
-                sink: None,
-            },
-            status: 13,
-            output: "ap: unbuilt\n",
-            cache: HELD,
-            entries: 0,
+            ..REFUSED
+        },
+        usage(&[]),
+        usage(&["batch"]),
+        usage(&["batch", "game", "--jobs"]),
+        usage(&["batch", "../game"]),
+        usage(&["soak", "1"]),
+    ]
+}
+
+const TREE_FAULT: Row = Row {
+    status: 4,
+    output: "ap: tree fault\n",
+    ..REFUSED
+};
+
+const CACHE_FAULT: Row = Row {
+    status: 5,
+    output: "ap: cache fault\n",
+    ..WHOLE
+};
+
+fn failing_tree(call: u64) -> Failing {
+    Failing {
+        tree: Some(call),
+        ..NONE
+    }
+}
+
+fn failing_cache(call: u64) -> Failing {
+    Failing {
+        cache: Some(call),
+        ..NONE
+    }
+}
+
+fn failing_sink(call: u64) -> Failing {
+    Failing {
+        sink: Some(call),
+        ..NONE
+    }
+}
+
+fn failing_disk(call: u64) -> Failing {
+    Failing {
+        disk: Some(call),
+        ..NONE
+    }
+}
+
+fn rows_of_faults() -> [Row; 11] {
+    [
+        Row {
+            failing: failing_tree(1),
+            ..TREE_FAULT
         },
         Row {
-            words: &[],
-            tree: &[],
-            failing: Failing {
-                tree: None,
-                cache: None,
-                sink: None,
-            },
-            status: 2,
-            output: USAGE,
-            cache: HELD,
-            entries: 0,
+            failing: failing_tree(2),
+            ..TREE_FAULT
         },
         Row {
-            words: &["batch"],
-            tree: &[],
-            failing: Failing {
-                tree: None,
-                cache: None,
-                sink: None,
-            },
-            status: 2,
-            output: USAGE,
-            cache: HELD,
-            entries: 0,
+            failing: failing_tree(3),
+            ..TREE_FAULT
         },
         Row {
-            words: &["batch", "game", "--jobs"],
-            tree: &[],
-            failing: Failing {
-                tree: None,
-                cache: None,
-                sink: None,
-            },
-            status: 2,
-            output: USAGE,
-            cache: HELD,
-            entries: 0,
+            failing: failing_tree(4),
+            ..WHOLE
         },
         Row {
-            words: &["batch", "../game"],
-            tree: &[],
-            failing: Failing {
-                tree: None,
-                cache: None,
-                sink: None,
-            },
-            status: 2,
-            output: USAGE,
+            failing: failing_cache(1),
             cache: HELD,
-            entries: 0,
+            ..CACHE_FAULT
         },
         Row {
-            words: &["soak", "1"],
-            tree: &[],
-            failing: Failing {
-                tree: None,
-                cache: None,
-                sink: None,
-            },
-            status: 2,
-            output: USAGE,
-            cache: HELD,
-            entries: 0,
+            failing: failing_cache(2),
+            cache: HALF_MADE,
+            ..CACHE_FAULT
+        },
+        Row {
+            failing: failing_cache(3),
+            ..WHOLE
+        },
+        Row {
+            failing: failing_sink(1),
+            status: 7,
+            output: "",
+            ..WHOLE
+        },
+        Row {
+            failing: failing_sink(2),
+            ..WHOLE
+        },
+        Row {
+            failing: failing_sink(1),
+            output: "",
+            ..usage(&["soak", "1"])
+        },
+        Row {
+            failing: failing_disk(1),
+            status: 6,
+            output: "ap: disk fault\n",
+            ..REFUSED
         },
     ]
 }
 
-fn rows_of_faults() -> [Row; 10] {
+/// Stores that keep a run from going on: a record that isn't one of work, one under another mark, and one for
+/// which there is no room; and two in whose end no record stands.
+fn rows_of_stores() -> [Row; 5] {
     [
         Row {
-            words: &["batch", "game"],
-            tree: TWO,
-            failing: Failing {
-                tree: Some(1),
-                cache: None,
-                sink: None,
-            },
-            status: 4,
-            output: "ap: tree fault\n",
-            cache: HELD,
-            entries: 0,
+            store: b"APSTORE1\0\0\0\0\0\0\0\x01\x01\0\0\0\x01\xff\0",
+            status: 9,
+            output: "ap: bad store: record 1 offset 0\n",
+            ..REFUSED
         },
         Row {
-            words: &["batch", "game"],
-            tree: TWO,
-            failing: Failing {
-                tree: Some(2),
-                cache: None,
-                sink: None,
-            },
-            status: 4,
-            output: "ap: tree fault\n",
-            cache: HELD,
-            entries: 0,
+            store: b"APSTORE2\0\0\0\0\0\0\0\x01\x01\0\0\0\x01\xff\0",
+            status: 9,
+            output: "ap: bad store: record 0 offset 0\n",
+            ..REFUSED
         },
         Row {
-            words: &["batch", "game"],
-            tree: TWO,
-            failing: Failing {
-                tree: Some(3),
-                cache: None,
-                sink: None,
-            },
-            status: 4,
-            output: "ap: tree fault\n",
-            cache: HELD,
-            entries: 0,
+            room: 51,
+            status: 11,
+            output: "ap: store full: length 17 wanted 35\n",
+            entries: 3,
+            ..REFUSED
         },
         Row {
-            words: &["batch", "game"],
-            tree: TWO,
-            failing: Failing {
-                tree: Some(4),
-                cache: None,
-                sink: None,
-            },
-            status: 0,
-            output: REPORT,
-            cache: MADE,
-            entries: 4,
+            store: b"APSTORE1\0\0\0\0\0\0\0\x01\0\0\0\0\x01\xff\0",
+            ..WHOLE
         },
         Row {
-            words: &["batch", "game"],
-            tree: TWO,
-            failing: Failing {
-                tree: None,
-                cache: Some(1),
-                sink: None,
-            },
-            status: 5,
-            output: "ap: cache fault\n",
-            cache: HELD,
-            entries: 4,
-        },
-        Row {
-            words: &["batch", "game"],
-            tree: TWO,
-            failing: Failing {
-                tree: None,
-                cache: Some(2),
-                sink: None,
-            },
-            status: 5,
-            output: "ap: cache fault\n",
-            cache: HALF_MADE,
-            entries: 4,
-        },
-        Row {
-            words: &["batch", "game"],
-            tree: TWO,
-            failing: Failing {
-                tree: None,
-                cache: Some(3),
-                sink: None,
-            },
-            status: 0,
-            output: REPORT,
-            cache: MADE,
-            entries: 4,
-        },
-        Row {
-            words: &["batch", "game"],
-            tree: TWO,
-            failing: Failing {
-                tree: None,
-                cache: None,
-                sink: Some(1),
-            },
-            status: 7,
-            output: "",
-            cache: MADE,
-            entries: 4,
-        },
-        Row {
-            words: &["batch", "game"],
-            tree: TWO,
-            failing: Failing {
-                tree: None,
-                cache: None,
-                sink: Some(2),
-            },
-            status: 0,
-            output: REPORT,
-            cache: MADE,
-            entries: 4,
-        },
-        Row {
-            words: &["soak", "1"],
-            tree: TWO,
-            failing: Failing {
-                tree: None,
-                cache: None,
-                sink: Some(1),
-            },
-            status: 2,
-            output: "",
-            cache: HELD,
-            entries: 0,
+            store: b"\xff\xff\xff\xff\xff\xff\xff\xff\xff\xff\xff\xff\xff\xff\xff\xff",
+            ..WHOLE
         },
     ]
 }
@@ -402,25 +362,17 @@ fn has_files(files: &[(Bytes, Bytes)], wanted: &[(&str, &str)]) -> bool {
 
 fn meets(rt: &(impl Abort + AllocGlobal), row: &Row) -> Result<(), Fail> {
     let words = row.words;
-    let (tree, cache, sink) = (row.failing.tree, row.failing.cache, row.failing.sink);
-    let left = left_by(rt, words, row.tree, HELD, &row.failing)?;
+    let wanted = row.output;
+    let mut store = pair(rt, row.store, row.room, row.failing.disk)?;
+    let left = left_by(rt, words, row.tree, HELD, &mut store, &row.failing)?;
     let status = left.status;
+    assert!(rt; status == row.status, "{words:?} {wanted}: {status}");
     assert!(rt;
-        status == row.status,
-        "{words:?} failing {tree:?} {cache:?} {sink:?}: {status}"
+        left.output.as_slice() == wanted.as_bytes(),
+        "{words:?} {wanted}"
     );
-    assert!(rt;
-        left.output.as_slice() == row.output.as_bytes(),
-        "{words:?} failing {tree:?} {cache:?} {sink:?}"
-    );
-    assert!(rt;
-        has_files(&left.cache, row.cache),
-        "{words:?} failing {tree:?} {cache:?} {sink:?}"
-    );
-    assert!(rt;
-        left.entries == row.entries,
-        "{words:?} failing {tree:?} {cache:?} {sink:?}"
-    );
+    assert!(rt; has_files(&left.cache, row.cache), "{words:?} {wanted}");
+    assert!(rt; left.entries == row.entries, "{words:?} {wanted}");
     Ok(())
 }
 
@@ -441,6 +393,195 @@ fn runs_meet_each_fault(rt: HostRuntime) -> Result<(), Fail> {
 }
 
 #[test]
+fn runs_meet_each_store(rt: HostRuntime) -> Result<(), Fail> {
+    for row in rows_of_stores() {
+        meets(&rt, &row)?;
+    }
+    Ok(())
+}
+
+/// A run over a folder as it is then, the report, and the length of the store's file at its end.
+#[derive(Clone, Copy)]
+struct Turn {
+    tree: &'static [(&'static str, &'static str)],
+    output: &'static str,
+    length: usize,
+}
+
+const MADE_A: &str =
+    "create copy a.txt\nprocess pc copy a.txt\nsources 1 jobs 1 done 1 published 1 shadowed 0 wrote 1 removed 0\nok\n";
+
+/// One run after another over one store: nothing changed, a changed file, one with its older bytes again, one
+/// that is gone, and a new one beside it when it is there again.
+fn turns() -> [Turn; 6] {
+    [
+        Turn {
+            tree: &[("game/a.txt", "1\n")],
+            output: MADE_A,
+            length: 52,
+        },
+        Turn {
+            tree: &[("game/a.txt", "1\n")],
+            output: "sources 1 jobs 1 done 1 published 1 shadowed 0 wrote 1 removed 0\nok\n",
+            length: 52,
+        },
+        Turn {
+            tree: &[("game/a.txt", "2\n")],
+            output: MADE_A,
+            length: 87,
+        },
+        Turn {
+            tree: &[("game/a.txt", "1\n")],
+            output: MADE_A,
+            length: 122,
+        },
+        Turn {
+            tree: &[],
+            output: "sources 0 jobs 0 done 0 published 0 shadowed 0 wrote 0 removed 0\nok\n",
+            length: 122,
+        },
+        Turn {
+            tree: &[("game/b.txt", "1\n"), ("game/a.txt", "1\n")],
+            output: "create copy b.txt\nprocess pc copy b.txt\nsources 2 jobs 2 done 2 published 2 shadowed 0 wrote 2 removed 0\nok\n",
+            length: 157,
+        },
+    ]
+}
+
+/// That the next run over a store is this one.
+fn take_turn(
+    rt: &(impl Abort + AllocGlobal),
+    store: &mut Pair<MemoryDisk>,
+    turn: &Turn,
+) -> Result<(), Fail> {
+    let wanted = turn.output;
+    let left = left_by(rt, &["batch", "game"], turn.tree, &[], store, &NONE)?;
+    assert!(rt; left.status == 0, "{wanted}");
+    assert!(rt; left.output.as_slice() == wanted.as_bytes(), "{wanted}");
+    assert!(rt; left.cache.len() == turn.tree.len(), "{wanted}");
+    assert!(rt;
+        store.disk(Side::A).bytes().len() == turn.length,
+        "{wanted}"
+    );
+    Ok(())
+}
+
+#[test]
+fn later_runs_ask_for_what_differs(rt: HostRuntime) -> Result<(), Fail> {
+    let mut store = pair(&rt, b"", ROOM, None)?;
+    for turn in turns() {
+        take_turn(&rt, &mut store, &turn)?;
+    }
+    Ok(())
+}
+
+const THREE: [(&str, &str); 3] = [("game/a", "1"), ("game/b", ""), ("game/c", "333")];
+
+const THREE_MADE: &[(&str, &str)] = &[("pc/a", "1"), ("pc/b", ""), ("pc/c", "333")];
+
+/// The reports of runs over the three files that have the records of the first so many of them.
+const REPORTS: [&str; 4] = [
+    "create copy a\ncreate copy b\ncreate copy c\nprocess pc copy a\nprocess pc copy b\nprocess pc copy c\nsources 3 jobs 3 done 3 published 3 shadowed 0 wrote 3 removed 0\nok\n",
+    "create copy b\ncreate copy c\nprocess pc copy b\nprocess pc copy c\nsources 3 jobs 3 done 3 published 3 shadowed 0 wrote 3 removed 0\nok\n",
+    "create copy c\nprocess pc copy c\nsources 3 jobs 3 done 3 published 3 shadowed 0 wrote 3 removed 0\nok\n",
+    "sources 3 jobs 3 done 3 published 3 shadowed 0 wrote 3 removed 0\nok\n",
+];
+
+fn now(rt: &impl Abort, disk: &MemoryDisk) -> u64 {
+    match disk.clock() {
+        Some(now) => now,
+        None => panic!(rt; "no clock is told"),
+    }
+}
+
+/// The store after a first run over the first so many of the three files.
+fn stored(rt: &(impl Abort + AllocGlobal), count: usize) -> Result<Pair<MemoryDisk>, Fail> {
+    assert!(rt; count <= 3);
+    let mut store = pair(rt, b"", ROOM, None)?;
+    let left = left_by(
+        rt,
+        &["batch", "game"],
+        &THREE[..count],
+        &[],
+        &mut store,
+        &NONE,
+    )?;
+    assert!(rt; left.status == 0);
+    Ok(store)
+}
+
+/// The clock at which the first, the second and the third commit of a run had answered: the runs over fewer
+/// files make the same calls.
+fn exits(rt: &(impl Abort + AllocGlobal)) -> Result<[u64; 3], Fail> {
+    let one = now(rt, stored(rt, 1)?.disk(Side::A));
+    let two = now(rt, stored(rt, 2)?.disk(Side::A));
+    let three = now(rt, stored(rt, 3)?.disk(Side::A));
+    Ok([one, two, three])
+}
+
+/// One image of a disk, at a moment of its calls.
+fn image(
+    rt: &impl Abort,
+    alloc: Global,
+    disk: &MemoryDisk,
+    moment: u64,
+    fill: u8,
+) -> Result<Vec<u8>, Fail> {
+    let Some(now) = disk.clock() else {
+        panic!(rt; "no clock is told");
+    };
+    assert!(rt; 1 <= moment);
+    assert!(rt; moment <= now);
+    Ok(disk.image(alloc, moment, fill)?)
+}
+
+/// That a run over the image of a moment has the records of all commits that had answered, and perhaps of the
+/// next one, and ends as the definition says.
+fn goes_on(
+    rt: &(impl Abort + AllocGlobal),
+    disk: &MemoryDisk,
+    moment: u64,
+    fill: u8,
+    exits: &[u64; 3],
+) -> Result<(), Fail> {
+    let stopped = image(rt, rt.alloc(), disk, moment, fill)?;
+    let mut store = pair(rt, &stopped, ROOM, None)?;
+    let left = left_by(rt, &["batch", "game"], &THREE, &[], &mut store, &NONE)?;
+    let answered = exits.iter().filter(|exit| **exit < moment).count();
+    let kept = 3usize.saturating_sub(left.entries / 2);
+    assert!(rt;
+        answered <= kept && kept <= answered.saturating_add(1),
+        "moment {moment}, fill {fill}"
+    );
+    assert!(rt;
+        left.status == 0 && kept <= 3,
+        "moment {moment}, fill {fill}"
+    );
+    assert!(rt;
+        left.output.as_slice() == REPORTS[kept].as_bytes(),
+        "moment {moment}, fill {fill}"
+    );
+    assert!(rt;
+        has_files(&left.cache, THREE_MADE),
+        "moment {moment}, fill {fill}"
+    );
+    Ok(())
+}
+
+#[test]
+fn a_run_goes_on_from_each_moment(rt: HostRuntime) -> Result<(), Fail> {
+    let exits = exits(&rt)?;
+    let store = stored(&rt, 3)?;
+    let end = now(&rt, store.disk(Side::A));
+    for moment in 1..=end {
+        for fill in FILLS {
+            goes_on(&rt, store.disk(Side::A), moment, fill, &exits)?;
+        }
+    }
+    Ok(())
+}
+
+#[test]
 fn forms_that_never_fail_meet_no_fault(rt: HostRuntime) -> Result<(), Fail> {
     let alloc = rt.alloc();
     let words = spoken(alloc, &["batch", "game"])?;
@@ -448,8 +589,8 @@ fn forms_that_never_fail_meet_no_fault(rt: HostRuntime) -> Result<(), Fail> {
     assert!(rt; are_distinct(&sources));
     let mut tree = SureMemoryTree::of(sources);
     let mut cache = SureMemoryCache::of(Vec::new(alloc));
-    let a = SureMemoryDisk::new(vec![in alloc; 0u8; 17]?, 0);
-    let b = SureMemoryDisk::new(vec![in alloc; 0u8; 17]?, 0);
+    let a = SureMemoryDisk::new(vec![in alloc; 0u8; 4096]?, 0);
+    let b = SureMemoryDisk::new(vec![in alloc; 0u8; 4096]?, 0);
     let mut store = Pair::new(a, b);
     let mut bench = Bench::new(alloc, CopyPass);
     let mut out = SureMemorySink::new(vec![in alloc; 0u8; 4096]?);

@@ -1,4 +1,15 @@
 pub mod Digits
-pub mod Tests
+pub mod Deciding
+pub mod ProductsTold
+pub mod RowByRow
+pub mod ProductsBack
+pub mod ChangeTold
+pub mod OneSpelling
+pub mod Told
+pub mod ChangeBack
+pub mod ReadBack
+pub mod Chains
+pub mod Numbers
+pub mod Lengths
 pub mod ItemByItem
 pub mod ChangeByItem

@@ -2,5 +2,9 @@ pub mod Fields
 pub mod Readers
 pub mod Grammar
 pub mod Spelling
+pub mod Folded
+pub mod Typed
 pub mod GrammarExamples
+pub mod Products
+pub mod Folding
 pub mod Listing

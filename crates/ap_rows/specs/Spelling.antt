@@ -37,10 +37,13 @@ kind_byte Fingerprint = 2
 abbrev pub dependency_field : DependencyRow → List ℕ
 dependency_field dep = kind_byte dep.kind ∷ job_field dep.job
 
+-- what stands of a job before its parameters
+abbrev pub terms_field : JobDesc → List ℕ
+terms_field job = name_field job.builder ++ number_field 4 job.version ++ name_field job.platform ++ name_field job.key ++ number_field 4 (cast_unsigned w32 job.priority)
+
 -- a job that was created
 abbrev pub desc_field : JobDesc → List ℕ
-desc_field job = name_field job.builder ++ number_field 4 job.version ++ name_field job.platform ++ name_field job.key
-    ++ number_field 4 (cast_unsigned w32 job.priority) ++ run_field 4 job.params ++ list_field 4 dependency_field job.deps
+desc_field job = terms_field job ++ run_field 4 job.params ++ list_field 4 dependency_field job.deps
 
 -- how a source was seen
 abbrev pub seen_field : SeenRow → List ℕ

@@ -1,7 +1,9 @@
 //! Reading a change.
-ghost use Rattle.std.specs.Prelude.{◌≡◌, ◌≤◌, ◌<◌, ℕ, IfOk, IfErr, OnOk, Some, None, Ok, Err, length};
+ghost use Rattle.std.specs.Prelude.{◌≡◌, ◌≤◌, ◌<◌, ℕ, IsTrue, IfOk, IfErr, OnOk, Some, None, Ok, Err, length};
 ghost use Rattle.ap_rows.specs.Readers.{run_of, path};
 ghost use Rattle.ap_rows.specs.Grammar.{thing_number, dep_kind, seen, created, outcome, job_result, source_row, create_row, job_row, define, item_by, item, decoded};
+ghost use Rattle.ap_rows.specs.Spelling.{spelled};
+ghost use Rattle.ap_rows.specs.Folded.{are_folded};
 
 use crate::change::{Change, Item};
 use crate::fields::FieldReader;
@@ -44,17 +46,12 @@ fn read_kind(reader: &mut FieldReader<'_>) -> Result<DepKind, Unread>
     ensures outside { IfErr result (λ stop. stop ≡ Unread.Outside → dep_kind reader.old ≡ None) }
     ensures shorter { length reader.new ≤ length reader.old }
 {
-    let byte = read_byte(reader)?;
-    if byte == 0 {
-        return Ok(DepKind::Order);
+    match read_byte(reader)? {
+        0 => Ok(DepKind::Order),
+        1 => Ok(DepKind::OrderOnce),
+        2 => Ok(DepKind::Fingerprint),
+        _ => Err(Unread::Outside),
     }
-    if byte == 1 {
-        return Ok(DepKind::OrderOnce);
-    }
-    if byte == 2 {
-        return Ok(DepKind::Fingerprint);
-    }
-    Err(Unread::Outside)
 }
 
 impl Form for Number {
@@ -125,15 +122,14 @@ fn read_seen(reader: &mut FieldReader<'_>) -> Result<SeenRow, Unread>
     ensures outside { IfErr result (λ stop. stop ≡ Unread.Outside → seen reader.old ≡ None) }
     ensures shorter { length reader.new ≤ length reader.old }
 {
-    let byte = read_byte(reader)?;
-    if byte == 0 {
-        let thing = read_thing(reader)?;
-        return Ok(SeenRow::Bytes(thing));
+    match read_byte(reader)? {
+        0 => {
+            let thing = read_thing(reader)?;
+            Ok(SeenRow::Bytes(thing))
+        }
+        2 => Ok(SeenRow::TooLarge),
+        _ => Err(Unread::Outside),
     }
-    if byte == 2 {
-        return Ok(SeenRow::TooLarge);
-    }
-    Err(Unread::Outside)
 }
 
 #[tactic(auto, unfolding(crate::specs::Grammar::created_by, crate::specs::Grammar::created))]
@@ -142,25 +138,24 @@ fn read_created(reader: &mut FieldReader<'_>, alloc: Global) -> Result<Created, 
     ensures outside { IfErr result (λ stop. stop ≡ Unread.Outside → created reader.old ≡ None) }
     ensures shorter { length reader.new ≤ length reader.old }
 {
-    let byte = read_byte(reader)?;
-    if byte == 0 {
-        let jobs = read_list(reader, alloc)?;
-        return Ok(Created::Jobs(jobs));
+    match read_byte(reader)? {
+        0 => {
+            let jobs = read_list(reader, alloc)?;
+            Ok(Created::Jobs(jobs))
+        }
+        1 => {
+            let builder = read_name(reader, alloc)?;
+            let code = read_u32(reader)?;
+            Ok(Created::Builder { builder, code })
+        }
+        2 => {
+            let key = read_name(reader, alloc)?;
+            let platform = read_platform(reader, alloc)?;
+            Ok(Created::DuplicateKey { key, platform })
+        }
+        3 => Ok(Created::TooLarge),
+        _ => Err(Unread::Outside),
     }
-    if byte == 1 {
-        let builder = read_name(reader, alloc)?;
-        let code = read_u32(reader)?;
-        return Ok(Created::Builder { builder, code });
-    }
-    if byte == 2 {
-        let key = read_name(reader, alloc)?;
-        let platform = read_platform(reader, alloc)?;
-        return Ok(Created::DuplicateKey { key, platform });
-    }
-    if byte == 3 {
-        return Ok(Created::TooLarge);
-    }
-    Err(Unread::Outside)
 }
 
 #[tactic(auto, unfolding(crate::specs::Grammar::outcome_by, crate::specs::Grammar::outcome))]
@@ -169,16 +164,17 @@ fn read_outcome(reader: &mut FieldReader<'_>) -> Result<OutcomeRow, Unread>
     ensures outside { IfErr result (λ stop. stop ≡ Unread.Outside → outcome reader.old ≡ None) }
     ensures shorter { length reader.new ≤ length reader.old }
 {
-    let byte = read_byte(reader)?;
-    if byte == 0 {
-        let thing = read_thing(reader)?;
-        return Ok(OutcomeRow::Done(thing));
+    match read_byte(reader)? {
+        0 => {
+            let thing = read_thing(reader)?;
+            Ok(OutcomeRow::Done(thing))
+        }
+        1 => {
+            let code = read_u32(reader)?;
+            Ok(OutcomeRow::Failed(code))
+        }
+        _ => Err(Unread::Outside),
     }
-    if byte == 1 {
-        let code = read_u32(reader)?;
-        return Ok(OutcomeRow::Failed(code));
-    }
-    Err(Unread::Outside)
 }
 
 #[tactic(auto, unfolding(crate::specs::Grammar::result_by, crate::specs::Grammar::job_result))]
@@ -187,24 +183,23 @@ fn read_result(reader: &mut FieldReader<'_>, alloc: Global) -> Result<JobResult,
     ensures outside { IfErr result (λ stop. stop ≡ Unread.Outside → job_result reader.old ≡ None) }
     ensures shorter { length reader.new ≤ length reader.old }
 {
-    let byte = read_byte(reader)?;
-    if byte == 0 {
-        let input = read_thing(reader)?;
-        let outcome = read_outcome(reader)?;
-        return Ok(JobResult::Processed { input, outcome });
+    match read_byte(reader)? {
+        0 => {
+            let input = read_thing(reader)?;
+            let outcome = read_outcome(reader)?;
+            Ok(JobResult::Processed { input, outcome })
+        }
+        1 => Ok(JobResult::Cycle),
+        2 => {
+            let job = read_job_id(reader, alloc)?;
+            Ok(JobResult::Missing(job))
+        }
+        3 => {
+            let job = read_job_id(reader, alloc)?;
+            Ok(JobResult::DepFailed(job))
+        }
+        _ => Err(Unread::Outside),
     }
-    if byte == 1 {
-        return Ok(JobResult::Cycle);
-    }
-    if byte == 2 {
-        let job = read_job_id(reader, alloc)?;
-        return Ok(JobResult::Missing(job));
-    }
-    if byte == 3 {
-        let job = read_job_id(reader, alloc)?;
-        return Ok(JobResult::DepFailed(job));
-    }
-    Err(Unread::Outside)
 }
 
 #[tactic(auto, unfolding(crate::specs::Grammar::source_row))]
@@ -330,6 +325,8 @@ pub enum RowFault {
 /// The change that the bytes spell. It costs the bytes once.
 pub fn decode(alloc: Global, bytes: &[u8]) -> Result<Change, RowFault>
     ensures change { IfOk result (λ change. decoded bytes.now ≡ Ok change.items) }
+    ensures one_spelling { IfOk result (λ change. spelled change.items ≡ bytes.now) }
+    ensures folded { IfOk result (λ change. IsTrue (are_folded change.items)) }
     ensures bad { IfErr result (λ fault. (offset : ℕ) → fault ≡ RowFault.BadRecord offset
         → decoded bytes.now ≡ Err offset) }
 {

@@ -6,16 +6,26 @@
 
 mod change;
 mod decoding;
+mod encoding;
 mod fields;
 mod forms;
 mod job;
+mod measure;
+mod node;
 mod product;
 mod read;
 mod row;
+#[cfg(test)]
+mod tests;
+mod write;
 
 pub use change::{Change, Item};
 pub use decoding::{RowFault, decode};
+pub use encoding::encode;
 pub use fields::{FieldReader, put_number, put_run};
 pub use job::{Created, DepKind, DependencyRow, JobDesc};
+pub use measure::spelled_length;
+pub use node::{products_node, read_products};
 pub use product::{LegacyRow, ProductRow, RefRow};
+pub use read::is_folded;
 pub use row::{CreateRow, FolderRow, JobResult, JobRow, OutcomeRow, SeenRow, SourceRow, Tables};

@@ -1,6 +1,7 @@
 //! The fields of rows, read one after another.
-ghost use Rattle.std.specs.Prelude.{◌≡◌, ◌≤◌, ◌<◌, OnOk, length, IsTrue, IfOk, IfErr, Some, None, true, false, not, ◌&&◌, nat_le};
+ghost use Rattle.std.specs.Prelude.{◌≡◌, ◌≤◌, ◌<◌, ◌↔◌, OnOk, length, IsTrue, IfOk, IfErr, Some, None, true, false, not, ◌&&◌, nat_le};
 ghost use Rattle.std.specs.List.{list_all};
+ghost use Rattle.std.specs.Str.{str_to_ascii_lowercase};
 ghost use Rattle.ap_text.specs.declared.job_id.JobId.{JobId};
 ghost use Rattle.ap_rows.specs.Fields.{is_width};
 ghost use Rattle.ap_rows.specs.Readers.{number, bytes_of, run_of, raw_path, path, name, platform, file_name, job_id, is_folded, is_rel_path, is_name, is_platform, is_file_name};
@@ -113,8 +114,10 @@ fn file_name_of(alloc: Global, bytes: &[u8]) -> Result<FileName, Unread>
     }
 }
 
-fn is_folded_path(path: &RelPath) -> bool
-    ensures { result ≡ is_folded path.now }
+/// Whether the path is folded, so that folding it leaves it as it is. It takes no memory.
+pub fn is_folded(path: &RelPath) -> bool
+    ensures folded { result ≡ is_folded path.now }
+    ensures fold { IsTrue result ↔ (str_to_ascii_lowercase path.now ≡ path.now) }
 {
     let bytes = path.as_slice();
     has_no_capital(bytes)
@@ -145,7 +148,7 @@ pub(crate) fn read_path(reader: &mut FieldReader<'_>, alloc: Global) -> Result<R
     ensures shorter { length reader.new ≤ length reader.old }
 {
     let path = read_raw_path(reader, alloc)?;
-    if !is_folded_path(&path) {
+    if !is_folded(&path) {
         return Err(Unread::Outside);
     }
     Ok(path)

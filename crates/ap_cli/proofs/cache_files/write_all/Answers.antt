@@ -9,9 +9,9 @@ pub loop-rest-preserved : goal.loop-rest-preserved
 loop-rest-preserved g c =
     let so_far = c.loop-rest.invariant in
     let put = subst (λ (p : List ℕ). TellsAs (g.C.CacheDir.files c.loop-rest.cache) (g.C.CacheDir.files c.write.new.self) (λ old new. Puts old new p (Some c.file-item.result.1)))
-    c.as_slice.ensures
-    (subst (λ (b : List ℕ). TellsAs (g.C.CacheDir.files c.loop-rest.cache) (g.C.CacheDir.files c.write.new.self) (λ old new. Puts old new c.as_slice.result.now (Some b)))
-    c.as_slice-in-len1-up.ensures c.in-Ok.ensures.written) in
+    c.path.ensures
+    (subst (λ (b : List ℕ). TellsAs (g.C.CacheDir.files c.loop-rest.cache) (g.C.CacheDir.files c.write.new.self) (λ old new. Puts old new c.path.result.now (Some b)))
+    c.bytes.ensures c.in-Ok.ensures.written) in
     record {
       distinct = distinct_after c.loop-rest.rest.now so_far.distinct;
       left = λ final laid. so_far.left final (laid_after _ _ final c.loop-rest.rest.now c.file-item.result c.in-len1-up.len_at_least c.file-item.is so_far.distinct put laid);
@@ -23,5 +23,5 @@ loop-rest-preserved g c =
 
 pub returns-in-Err-Failed-clause-partly : goal.returns-in-Err-Failed-clause-partly
 returns-in-Err-Failed-clause-partly g c = λ _.
-    all_but_one c.args.files.now (g.C.CacheDir.files c.args.cache.now) (g.C.CacheDir.files c.loop-rest.cache) (g.C.CacheDir.files c.write.new.self) c.as_slice.result.now
+    all_but_one c.args.files.now (g.C.CacheDir.files c.args.cache.now) (g.C.CacheDir.files c.loop-rest.cache) (g.C.CacheDir.files c.write.new.self) c.path.result.now
     c.loop-rest.invariant.so_far c.write.ensures.others

@@ -1,9 +1,6 @@
-use Rattle.std.proofs.Common.{List, ℕ, subst}
-use Rattle.ap_cli.specs.Output.{GainsFront}
-use Rattle.ap_cli.proofs.Gaining.{front_either_way}
+use Rattle.std.proofs.Common.{inr, refl}
+use Rattle.ap_cli.specs.declared.stop.Stop.TheVariants.{Memory}
 use Rattle.ap_cli.proofs.top.refuse.Goals as goal
 
-pub returns-clause-front : goal.returns-clause-front
-returns-clause-front g c =
-    subst (λ (text : List ℕ). GainsFront (g.O.Sink.written c.args.out.now) (g.O.Sink.written c.write_text.new.out) text) c.line.ensures
-    (front_either_way _ _ _ c.write_text.result c.write_text.ensures.whole c.write_text.ensures.front)
+pub returns-in-Err-clause-said : goal.returns-in-Err-clause-said
+returns-in-Err-clause-said g c = (Memory, inr (refl, c.in-Err.ensures.quiet), c.say-in-Err.ensures.status, c.say-in-Err.ensures.front, c.say-in-Err.ensures.whole)

@@ -3,6 +3,8 @@ use Rattle.std.proofs.lemmas.List.{append-nil, length_push}
 use Rattle.ap_rows.specs.Grammar.{items_from}
 use Rattle.ap_rows.specs.Listing.{change_behind}
 use Rattle.ap_rows.proofs.ChangeByItem.{items-step, items-bad, items-done, start, something, nothing}
+use Rattle.ap_rows.proofs.Numbers.{are_bytes}
+use Rattle.ap_rows.proofs.ChangeTold.{decoded-told}
 use Rattle.ap_rows.proofs.decoding.decode.Goals as goal
 
 pub loop-reader-init : goal.loop-reader-init
@@ -57,3 +59,9 @@ returns-clause-change c =
     c.loop-reader.invariant.0
     ∙ ap (change_behind items) (items-done (length c.args.bytes.now - length items) (length c.args.bytes.now - length reader) reader none)
     ∙ ap Ok (append-nil items ∙ sym c.of.ensures)
+
+pub returns-clause-one_spelling : goal.returns-clause-one_spelling
+returns-clause-one_spelling c = (decoded-told c.args.bytes.now c.of.result (are_bytes c.args.bytes.now (λ i. omega (arith, c.type_inv.bytes i))) (returns-clause-change c)).0
+
+pub returns-clause-folded : goal.returns-clause-folded
+returns-clause-folded c = (decoded-told c.args.bytes.now c.of.result (are_bytes c.args.bytes.now (λ i. omega (arith, c.type_inv.bytes i))) (returns-clause-change c)).1

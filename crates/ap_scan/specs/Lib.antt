@@ -1,0 +1,5 @@
+pub mod Winners
+pub mod Limits
+pub mod Candidates
+pub mod Sweep
+pub mod Reads

@@ -1,0 +1,4 @@
+pub mod Chain
+pub mod Told
+pub mod Reading
+pub mod Folding
