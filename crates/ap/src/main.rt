@@ -8,6 +8,7 @@ use ap_disk::{FileDisk, Pair};
 use ap_text::OutOfMemory;
 use ap_tree::{DirCache, DirTree, StdSink};
 use std::env;
+use std::fs::{Files, OpenOptions};
 use std::io::{self, ErrorKind};
 use std::process::ExitCode;
 
@@ -22,6 +23,7 @@ fn main(rt: HostRuntime) -> ExitCode {
 fn run_here(rt: &HostRuntime) -> Result<u8, OutOfMemory> {
     let alloc = rt.alloc();
     let words = words(rt)?;
+    let _held = [open_here(rt), open_here(rt), open_here(rt)];
     let mut tree = DirTree::new(rt.clone()?, ".")?;
     let mut cache = DirCache::new(rt.clone()?, "Cache")?;
     let mut store = Pair::new(
@@ -41,6 +43,12 @@ fn run_here(rt: &HostRuntime) -> Result<u8, OutOfMemory> {
         &mut out,
     );
     Ok(status)
+}
+
+/// Opens the current folder. Held three times it takes the number of each standard stream that is closed, which
+/// the store's file would take else: then a write to the stream fails, and doesn't go into the store.
+fn open_here<R: Files>(rt: &R) -> Option<R::File> {
+    OpenOptions::new().read(true).open(rt, ".").ok()
 }
 
 /// The words after the program's name. Where one isn't UTF-8 there are none, which is no command line.
