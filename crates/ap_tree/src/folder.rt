@@ -3,7 +3,7 @@ ghost use Rattle.std.specs.Prelude.{◌≡◌};
 
 use ap_text::{Bytes, OutOfMemory, Seen};
 use std::alloc::{AllocError, AllocFailed, Global};
-use std::fs::{Files, OpenOptions};
+use std::fs::{Files, OpenFile, OpenOptions};
 use std::io::{ErrorKind, Read, Write};
 use std::{fs, io, str};
 
@@ -312,9 +312,22 @@ fn write_file<R: Files>(rt: &R, path: &str, bytes: &[u8]) -> Result<(), Fault> {
 
 fn replace_file<R: Files>(rt: &R, path: &str, bytes: &[u8]) -> Result<(), Fault> {
     match look(rt, path)? {
-        Stands::File(_) => fs::write(rt, path, bytes).map_err(|_| Fault::Failed),
+        Stands::File(len) => write_over(rt, path, len, bytes).map_err(|_| Fault::Failed),
         _ => Err(Fault::Failed),
     }
+}
+
+/// Writes over a file that had so many bytes, and then cuts off what is left of them. It isn't cut as it is opened:
+/// some file systems bring a file that was cut to nothing to the disk as soon as it is closed.
+fn write_over<R: Files>(rt: &R, path: &str, old_len: u64, bytes: &[u8]) -> io::Result<()> {
+    let mut how = OpenOptions::new();
+    how.write(true);
+    let mut file = how.open(rt, path)?;
+    file.write_all(bytes)?;
+    if old_len > bytes.len() as u64 {
+        file.set_len(bytes.len() as u64)?;
+    }
+    Ok(())
 }
 
 /// The paths of all files below a folder, relative to it.
