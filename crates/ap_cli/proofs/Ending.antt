@@ -34,7 +34,7 @@ use Rattle.ap_cli.specs.Unbuilt.{IsUnreadable, no_path, alike, too_large, IsUnma
 use Rattle.ap_cli.specs.Work.{products_of}
 use Rattle.ap_cli.proofs.OneList.{Lists-unique, source_cmp_total}
 use Rattle.ap_cli.proofs.Sounding.{scratch}
-use Rattle.ap_cli.proofs.Stopping.{each}
+use Rattle.ap_journal.specs.Told.{one as each}
 
 both : {X Y : Type 0} (one : Option X) (other : Option Y) (P : X → Type 0) (Q : Y → Type 0) (R : X → Y → Type 0) → IfSome one P → IfSome other Q → ((x : X) (y : Y) → P x → Q y → R x y) → IfSome one (λ x. IfSome other (R x))
 both None other P Q R p q r = tt
@@ -123,7 +123,7 @@ module _ (creates : List ℕ → CreateInput → CreateAnswer) (makes : JobInput
       last = last;
       recorded = recorded;
       made = made;
-      asked = record { jobs = asked.jobs; work = asked.work; asked = asked.asked; kept = kept_on (changes_of makes version (needed_of version last sources) asked.jobs) asked.kept };
+      asked = record { jobs = asked.jobs; work = asked.work; asked = asked.asked; kept = kept_on (changes_of makes version (needed_of version last sources) asked.jobs) asked.kept; fit = asked.fit };
       apart = apart;
       laid = laid;
       told = subst (λ (l : List Entry). Told l (counts_of sources (put_of version last sources made))) entries_are told;

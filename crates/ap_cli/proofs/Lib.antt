@@ -13,5 +13,7 @@ pub mod Rising
 pub mod Running
 pub mod Sorting
 pub mod Sounding
+pub mod StayingSound
 pub mod Stopping
+pub mod TrueRecords
 pub mod TwoLists

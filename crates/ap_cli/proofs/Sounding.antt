@@ -24,6 +24,19 @@ use Rattle.ap_cli.specs.Soundness.{source_of, IsSoundRecord, IsSound}
 use Rattle.ap_cli.specs.Steps.{with_all}
 use Rattle.ap_cli.specs.Work.{copy_name, create_input, only_job, jobs_of, process_input, only_product, products_of}
 
+-- what all steps gave, the first gave and the others
+pub record Parts {X : Type 0} (first : Option X) (rest : Option (List X)) (all : List X) : Type 0 where
+  pub one : X
+  pub others : List X
+  pub gave : first ≡ Some one
+  pub gave_rest : rest ≡ Some others
+  pub are : all ≡ one ∷ others
+
+pub parts : {X : Type 0} (first : Option X) (rest : Option (List X)) (all : List X) → with_all first rest ≡ Some all → Parts first rest all
+parts None rest all e = absurd (cc e)
+parts (Some x) None all e = absurd (cc e)
+parts (Some x) (Some xs) all e = record { one = x; others = xs; gave = refl; gave_rest = refl; are = cc e }
+
 module _ (creates : List ℕ → CreateInput → CreateAnswer) (makes : JobInput → Outcome) where
   -- a record whose product is the builder's
   record IsTrueOf (stored : Stored) : Type 0 where
@@ -105,19 +118,6 @@ module _ (creates : List ℕ → CreateInput → CreateAnswer) (makes : JobInput
           let same : other ≡ stored = cc found in
           (ap Some same, subst (λ (s : Stored). is_current version source s ≡ true) same is)
       by_test false is found = absurd (cc found)
-
-  -- what all steps gave, the first gave and the others
-  record Parts {X : Type 0} (first : Option X) (rest : Option (List X)) (all : List X) : Type 0 where
-    one : X
-    others : List X
-    gave : first ≡ Some one
-    gave_rest : rest ≡ Some others
-    are : all ≡ one ∷ others
-
-  parts : {X : Type 0} (first : Option X) (rest : Option (List X)) (all : List X) → with_all first rest ≡ Some all → Parts first rest all
-  parts None rest all e = absurd (cc e)
-  parts (Some x) None all e = absurd (cc e)
-  parts (Some x) (Some xs) all e = record { one = x; others = xs; gave = refl; gave_rest = refl; are = cc e }
 
   module _ (version : ℕ) (records : List Stored) (each : AllByRecursion IsTrueOf records) where
     from_scratch : (sources : List Source) (jobs : List JobDesc) (made : List Product) → jobs_of creates version (needed_of version (last_of records) sources) ≡ Some jobs →

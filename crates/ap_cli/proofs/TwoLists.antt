@@ -1,5 +1,5 @@
 -- One step of the processing of two lists, in the forms of the patterns `[first, after @ ..]`.
-use Rattle.std.proofs.Common.{◌≡◌, ◌≤◌, ◌-◌, ℕ, suc, List, [], ◌∷◌, ◌++◌, length, take, drop, get_or, refl, sym, ◌∙◌, ap, arith, append_assoc, map}
+use Rattle.std.proofs.Common.{◌≡◌, ◌≤◌, ◌-◌, ℕ, suc, List, [], ◌∷◌, ◌++◌, length, take, drop, get_or, refl, sym, ◌∙◌, ap, subst, arith, append_assoc, map}
 use Rattle.std.specs.Prelude.{Option, Some, None}
 use Rattle.std.proofs.Math.Seq.{take-length}
 use Rattle.ap_builder.specs.declared.entry.Entry.{Entry}
@@ -11,7 +11,7 @@ use Rattle.ap_builder.specs.Work.{job_of}
 use Rattle.ap_cli.specs.declared.source.Source.{Source}
 use Rattle.ap_cli.specs.Steps.{behind, with_all}
 use Rattle.ap_builder.specs.declared.product.Product.{Product}
-use Rattle.ap_cli.specs.Recorded.{payload_of, and_payload, changes_of}
+use Rattle.ap_cli.specs.Recorded.{payload_of, and_payload, changes_of, IsFitRecord, AreFitRecords}
 use Rattle.ap_builder.specs.declared.work.CreateInput.{CreateInput}
 use Rattle.ap_builder.specs.declared.work.CreateAnswer.{CreateAnswer}
 use Rattle.ap_cli.specs.Work.{copy_name, create_input, only_job, jobs_of, create_entries, process_input, only_product, products_of, process_entries}
@@ -77,6 +77,17 @@ module _ {S : Type 0} (view : S → Source) where
   changes_after makes version given all sources jobs source job product some is some' is' makes_it so_far =
       append_assoc given (payload_of version (view source) product ∷ []) (changes_of makes version (viewed (after sources)) (after jobs))
       ∙ ap (λ l. given ++ l) (sym (changes_first makes version sources jobs source job product some is some' is' makes_it)) ∙ so_far
+
+  -- one more record in front
+  pub fit_after : (makes : JobInput → Outcome) (version : ℕ) (sources : List S) (jobs : List JobDesc) (source : S) (job : JobDesc) (payload : List ℕ) (more : List (List ℕ)) →
+      1 ≤ length sources → source ≡ get_or sources 0 source → 1 ≤ length jobs → job ≡ get_or jobs 0 job → IsFitRecord makes version (view source) job payload →
+      AreFitRecords makes version more (viewed (after sources)) (after jobs) → AreFitRecords makes version (payload ∷ more) (viewed sources) jobs
+  fit_after makes version [] jobs source job payload more some is some' is' one rest = absurd (omega arith)
+  fit_after makes version (first ∷ sources) [] source job payload more some is some' is' one rest = absurd (omega arith)
+  fit_after makes version (first ∷ sources) (task ∷ jobs) source job payload more some is some' is' one rest = (
+    subst (λ (j : JobDesc). IsFitRecord makes version (view first) j payload) is' (subst (λ (s : S). IsFitRecord makes version (view s) job payload) is one),
+    subst (λ (l : List JobDesc). AreFitRecords makes version more (viewed sources) l) (after-cons task jobs) (subst (λ (l : List S). AreFitRecords makes version more (viewed l) (after (task ∷ jobs))) (after-cons first sources) rest),
+  )
 
   pub jobs_after : (creates : List ℕ → CreateInput → CreateAnswer) (version : ℕ) (done new : List JobDesc) (sources : List S) (source : S) (job : JobDesc) →
       1 ≤ length sources → source ≡ get_or sources 0 source → only_job (creates copy_name (create_input version (view source))) ≡ Some job → new ≡ done ++ job ∷ [] →

@@ -1,5 +1,5 @@
 -- What a run takes from the records of earlier runs, what it has still to ask for, and what it records.
-use Rattle.std.specs.Prelude.{ℕ, Bool, ◌&&◌, ◌==◌, List, [], ◌∷◌, Option, Some, None, is_none, bytes_eq, if◌then◌else◌}
+use Rattle.std.specs.Prelude.{◌≡◌, ℕ, Bool, ◌&&◌, ◌==◌, List, [], ◌∷◌, Option, Some, None, is_none, bytes_eq, if◌then◌else◌}
 use Rattle.std.specs.List.{filter}
 use Rattle.ap_rows.specs.declared.job.JobDesc.{JobDesc}
 use Rattle.ap_builder.specs.declared.product.Product.{Product}
@@ -7,7 +7,8 @@ use Rattle.ap_builder.specs.declared.work.CreateInput.{CreateInput}
 use Rattle.ap_builder.specs.declared.work.CreateAnswer.{CreateAnswer}
 use Rattle.ap_builder.specs.declared.work.JobInput.{JobInput}
 use Rattle.ap_builder.specs.declared.work.Outcome.{Outcome}
-use Rattle.ap_work.specs.Fields.{spelled}
+use Rattle.ap_work.specs.Fields.{Record, spelled}
+use Rattle.ap_work.specs.Stored.{AreFit}
 use Rattle.ap_work.specs.declared.stored.Stored.{Stored}
 use Rattle.ap_cli.specs.declared.source.Source.{Source}
 use Rattle.ap_cli.specs.Layout.{cache_file}
@@ -50,15 +51,18 @@ put_of version last (source ∷ sources) made = put_next source (current_of vers
 
 -- ---- the store
 
--- the record of a source's product
-abbrev pub payload_of : ℕ → Source → Product → List ℕ
-payload_of version source product = spelled (record {
+-- the fields of the record of a source's product, and the record
+abbrev pub fields_at : ℕ → Source → Product → Record
+fields_at version source product = record {
   path = source.path;
   version = version;
   source = source.bytes;
   name = product.name;
   product = product.bytes;
-})
+}
+
+abbrev pub payload_of : ℕ → Source → Product → List ℕ
+payload_of version source product = spelled (fields_at version source product)
 
 abbrev pub and_payload : ℕ → Source → Option Product → List (List ℕ) → List (List ℕ)
 and_payload version source None rest = []
@@ -70,6 +74,21 @@ changes_of makes version [] jobs = []
 changes_of makes version (source ∷ sources) [] = []
 changes_of makes version (source ∷ sources) (job ∷ jobs) =
     and_payload version source (only_product (makes (process_input source job))) (changes_of makes version sources jobs)
+
+-- a record of the product that a job makes of a source, with fields that are read again
+pub record IsFitRecord (makes : JobInput → Outcome) (version : ℕ) (source : Source) (job : JobDesc) (payload : List ℕ) : Type 0 where
+  pub product : Product
+  pub made : only_product (makes (process_input source job)) ≡ Some product
+  pub is : payload ≡ payload_of version source product
+  pub fit : AreFit (fields_at version source product)
+
+-- records of the first of these sources are so
+abbrev pub AreFitRecords : (JobInput → Outcome) → ℕ → List (List ℕ) → List Source → List JobDesc → Type 0
+AreFitRecords makes version [] sources jobs = Unit {0}
+AreFitRecords makes version (payload ∷ given) [] jobs = ⊥
+AreFitRecords makes version (payload ∷ given) (source ∷ sources) [] = ⊥
+AreFitRecords makes version (payload ∷ given) (source ∷ sources) (job ∷ jobs) =
+    IsFitRecord makes version source job payload × AreFitRecords makes version given sources jobs
 
 -- ---- from scratch
 

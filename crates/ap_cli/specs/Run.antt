@@ -1,5 +1,6 @@
 -- What a run of `batch` does.
 use Rattle.std.specs.Prelude.{◌≡◌, ℕ, List, ◌++◌, length, Some}
+use Rattle.std.specs.List.{AllByRecursion}
 use Rattle.ap_builder.specs.declared.entry.Entry.{Entry}
 use Rattle.ap_builder.specs.declared.product.Product.{Product}
 use Rattle.ap_rows.specs.declared.job.JobDesc.{JobDesc}
@@ -13,8 +14,8 @@ use Rattle.ap_cli.specs.declared.report.Counts.{Counts}
 use Rattle.ap_cli.specs.declared.source.Source.{Source}
 use Rattle.ap_cli.specs.Sources.{Files, AreSources}
 use Rattle.ap_cli.specs.Layout.{AreApart}
-use Rattle.ap_cli.specs.Recorded.{Last, needed_of, put_of, changes_of, scratch_of}
-use Rattle.ap_cli.specs.Soundness.{IsSound}
+use Rattle.ap_cli.specs.Recorded.{Last, needed_of, put_of, changes_of, AreFitRecords, scratch_of}
+use Rattle.ap_cli.specs.Soundness.{IsSoundRecord, IsSound}
 use Rattle.ap_cli.specs.Work.{copy_name, version_of, jobs_of, products_of, create_entries, process_entries}
 
 -- what each source is asked for: first a create of each, then a process of each
@@ -50,6 +51,7 @@ pub record Asked (creates : List ℕ → CreateInput → CreateAnswer) (makes : 
   pub work : IsWork creates makes version needed jobs made
   pub asked : bench' ≡ bench ++ entries_of needed jobs
   pub kept : Kept (changes_of makes version needed jobs)
+  pub fit : AreFitRecords makes version (changes_of makes version needed jobs) needed jobs
 
 -- what a run has asked for and made, with what holds of the store by its records, of the cache by the products, and of the sink by the
 -- report. Where each record of the store was one of the builder's answers, the products are those of all sources from scratch
@@ -73,13 +75,15 @@ pub record AreNext (creates : List ℕ → CreateInput → CreateAnswer) (makes 
   pub created : jobs_of creates version needed ≡ Some jobs
   pub rest : List (List ℕ)
   pub front : changes_of makes version needed jobs ≡ given ++ rest
+  pub fit : AreFitRecords makes version given needed jobs
 
--- records that are the first of those that a run commits
+-- records that are the first of those that a run commits, each of which is one of the builder's answers
 pub record AreFirst (creates : List ℕ → CreateInput → CreateAnswer) (makes : JobInput → Outcome) (offers : List Offer) (folder : List ℕ) (given : List (List ℕ)) (last : Last) (files : Files) : Type 0 where
   pub version : ℕ
   pub sources : List Source
   pub on : WorksOn offers folder files version sources
   pub next : AreNext creates makes version (needed_of version last sources) given
+  pub sound : AllByRecursion (IsSoundRecord creates makes) given
 
 -- with the last records of a store
 abbrev pub OnLast : (Last → Files → Type 0) → Files → List ℕ → Type 0

@@ -2,7 +2,7 @@ ghost use Rattle.std.specs.Prelude.{◌≡◌, ◌≤◌, ◌<◌, ◌⊎◌, �
 ghost use Rattle.ap_text.specs.Causes.{Rose};
 ghost use Rattle.ap_disk.specs.Calls.{TellsAs};
 ghost use Rattle.ap_disk.specs.Crashes.{Only};
-ghost use Rattle.ap_journal.specs.Commits.{CommitsAll, CommitsSome};
+ghost use Rattle.ap_journal.specs.Commits.{CommitsAll};
 ghost use Rattle.ap_journal.specs.Moments.{Steps};
 ghost use Rattle.ap_journal.specs.Records.{standing, IsStoreOf};
 ghost use Rattle.ap_journal.specs.State.{IsOf};
@@ -10,7 +10,9 @@ ghost use Rattle.ap_builder.specs.Offers.{is_offered};
 ghost use Rattle.ap_builder.specs.Work.{job_of};
 ghost use Rattle.ap_builder.specs.declared.entry.Entry.TheVariants.{Process};
 ghost use Rattle.ap_builder.specs.declared.product.Product.{Product};
-ghost use Rattle.ap_cli.specs.Recorded.{payload_of, changes_of};
+ghost use Rattle.ap_work.specs.Stored.{AreFit};
+ghost use Rattle.ap_cli.specs.Store.{GaveFront};
+ghost use Rattle.ap_cli.specs.Recorded.{fields_at, payload_of, changes_of, AreFitRecords};
 ghost use Rattle.ap_cli.specs.Work.{copy_name, process_input, only_product, products_of, process_entries};
 ghost use Rattle.ap_cli.specs.declared.stop.Stop.TheVariants.{Memory, Disk as DiskStop, Full, Unbuilt};
 
@@ -44,9 +46,11 @@ pub(crate) fn process_all<B: Builders, D: Disk>(
     ensures products { IfOk result (λ products. products_of B.makes (map (λ source. source.now) sources.now) jobs.now ≡ Some products.items) }
     ensures noted { OnOk result (bench.new ≡ bench.old ++ process_entries (map (λ source. source.now) sources.now) jobs.now) }
     ensures kept { OnOk result (CommitsAll D.seen D.may_leave D.clock D.left_at D.room D.faults store.old store.new (changes_of B.makes version (map (λ source. source.now) sources.now) jobs.now)) }
+    ensures fit { OnOk result (AreFitRecords B.makes version (changes_of B.makes version (map (λ source. source.now) sources.now) jobs.now) (map (λ source. source.now) sources.now) jobs.now) }
     ensures lasts { OnOk result (Only (D.seen store.new.0) (D.may_leave store.new.0)) }
     ensures unbuilt { IfErr result (λ stop. stop ≡ Unbuilt → products_of B.makes (map (λ source. source.now) sources.now) jobs.now ≡ None) }
-    ensures gave { IfErr result (λ stop. CommitsSome D.seen D.may_leave D.clock D.left_at D.room D.faults store.old store.new (changes_of B.makes version (map (λ source. source.now) sources.now) jobs.now)) }
+    ensures gave { IfErr result (λ stop. GaveFront D.seen D.may_leave D.clock D.left_at D.room D.faults store.old store.new (changes_of B.makes version (map (λ source. source.now) sources.now) jobs.now)
+        (λ given. AreFitRecords B.makes version given (map (λ source. source.now) sources.now) jobs.now)) }
     ensures full { IfErr result (λ stop. (l w : ℕ) → stop ≡ Full l w → journal.old.limit < l + w) }
     ensures disk { IfErr result (λ stop. stop ≡ DiskStop → Rose (D.faults store.old.0) (D.faults store.new.0)) }
     ensures only { IfErr result (λ stop. (stop ≡ Memory) ⊎ (stop ≡ Unbuilt) ⊎ (stop ≡ DiskStop) ⊎ ((l : ℕ) × (w : ℕ) × (stop ≡ Full l w))) }
@@ -99,9 +103,10 @@ fn work_one<B: Builders, D: Disk>(
     ensures reads { IfOk result (λ product. TellsAs (D.seen store.old.0) (D.seen store.new.0) (λ old new. standing new ≡ standing old ++ payload_of version source.now product ∷ [])) }
     ensures steps { IfOk result (λ product. Steps D.seen D.may_leave D.clock D.left_at D.room D.faults store.old store.new
         (λ c. IfSome (D.seen store.old.0) (λ old. IsStoreOf (standing old) c ⊎ IsStoreOf (standing old ++ payload_of version source.now product ∷ []) c))) }
+    ensures fit { IfOk result (λ product. AreFit (fields_at version source.now product)) }
     ensures unbuilt { IfErr result (λ stop. stop ≡ Unbuilt → only_product (B.makes (process_input source.now job.now)) ≡ None) }
     ensures gave { IfErr result (λ stop. (store.new ≡ store.old) ⊎ ((product : Product) × (only_product (B.makes (process_input source.now job.now)) ≡ Some product)
-        × Steps D.seen D.may_leave D.clock D.left_at D.room D.faults store.old store.new
+        × AreFit (fields_at version source.now product) × Steps D.seen D.may_leave D.clock D.left_at D.room D.faults store.old store.new
         (λ c. IfSome (D.seen store.old.0) (λ old. IsStoreOf (standing old) c ⊎ IsStoreOf (standing old ++ payload_of version source.now product ∷ []) c)))) }
     ensures full { IfErr result (λ stop. (l w : ℕ) → stop ≡ Full l w → journal.old.limit < l + w) }
     ensures disk { IfErr result (λ stop. stop ≡ DiskStop → Rose (D.faults store.old.0) (D.faults store.new.0)) }
@@ -132,7 +137,8 @@ fn record_one<D: Disk>(
     ensures reads { OnOk result (TellsAs (D.seen store.old.0) (D.seen store.new.0) (λ old new. standing new ≡ standing old ++ payload_of version source.now product.now ∷ [])) }
     ensures steps { Steps D.seen D.may_leave D.clock D.left_at D.room D.faults store.old store.new
         (λ c. IfSome (D.seen store.old.0) (λ old. IsStoreOf (standing old) c ⊎ IsStoreOf (standing old ++ payload_of version source.now product.now ∷ []) c)) }
-    ensures gave { IfErr result (λ stop. (store.new ≡ store.old) ⊎ (stop ≡ DiskStop)) }
+    ensures fit { OnOk result (AreFit (fields_at version source.now product.now)) }
+    ensures gave { IfErr result (λ stop. (store.new ≡ store.old) ⊎ ((stop ≡ DiskStop) × AreFit (fields_at version source.now product.now))) }
     ensures full { IfErr result (λ stop. (l w : ℕ) → stop ≡ Full l w → journal.old.limit < l + w) }
     ensures disk { IfErr result (λ stop. stop ≡ DiskStop → Rose (D.faults store.old.0) (D.faults store.new.0)) }
     ensures only { IfErr result (λ stop. (stop ≡ Memory) ⊎ (stop ≡ DiskStop) ⊎ ((l : ℕ) × (w : ℕ) × (stop ≡ Full l w))) }

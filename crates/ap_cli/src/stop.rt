@@ -1,10 +1,12 @@
 ghost use Rattle.std.specs.Prelude.{◌≡◌, ◌≢◌, ◌++◌, codes, decimal, IfOk, IfErr};
+ghost use Rattle.std.specs.Cow.{cow_slice_items};
 ghost use Rattle.ap_cli.specs.declared.stop.Stop.TheVariants.{Memory, Output};
 ghost use Rattle.ap_cli.specs.Refusals.{status_of, refusal_line, of_work};
 
 use ap_text::OutOfMemory;
 use ap_work::WorkFault;
 use std::alloc::{AllocError, AllocFailed, Global};
+use std::borrow::CowSlice;
 
 /// Why a run ends before its report is written.
 #[derive(Clone, Copy, Debug, PartialEq, Eq)]
@@ -51,23 +53,24 @@ impl Stop {
         }
     }
 
-    /// The line that is written, with its line feed; none where the sink failed.
-    pub fn line(self, alloc: Global) -> Result<Vec<u8>, OutOfMemory>
-        ensures line { IfOk result (λ line. line.items ≡ refusal_line self) }
+    /// The line that is written, with its line feed; none where the sink failed. Only a line with numbers takes memory.
+    pub fn line(self, alloc: Global) -> Result<CowSlice<'static, u8, Global>, OutOfMemory>
+        ensures line { IfOk result (λ line. cow_slice_items line ≡ refusal_line self) }
         ensures quiet { IfErr result (λ _. self ≢ Output) }
     {
-        let line = match self {
-            Stop::Usage => USAGE.to_vec(alloc)?,
-            Stop::Tree => b"ap: tree fault\n".to_vec(alloc)?,
-            Stop::Cache => b"ap: cache fault\n".to_vec(alloc)?,
-            Stop::Disk => b"ap: disk fault\n".to_vec(alloc)?,
-            Stop::Output => Vec::new(alloc),
-            Stop::Memory => OUT_OF_MEMORY.to_vec(alloc)?,
-            Stop::BadStore { record } => bad_store(alloc, record)?,
-            Stop::Full { length, wanted } => store_full(alloc, length, wanted)?,
-            Stop::Unbuilt => b"ap: unbuilt\n".to_vec(alloc)?,
-        };
-        Ok(line)
+        match self {
+            Stop::Usage => Ok(CowSlice::Borrowed(USAGE)),
+            Stop::Tree => Ok(CowSlice::Borrowed(b"ap: tree fault\n")),
+            Stop::Cache => Ok(CowSlice::Borrowed(b"ap: cache fault\n")),
+            Stop::Disk => Ok(CowSlice::Borrowed(b"ap: disk fault\n")),
+            Stop::Output => Ok(CowSlice::Borrowed(b"")),
+            Stop::Memory => Ok(CowSlice::Borrowed(OUT_OF_MEMORY)),
+            Stop::BadStore { record } => Ok(CowSlice::Owned(bad_store(alloc, record)?)),
+            Stop::Full { length, wanted } => {
+                Ok(CowSlice::Owned(store_full(alloc, length, wanted)?))
+            }
+            Stop::Unbuilt => Ok(CowSlice::Borrowed(b"ap: unbuilt\n")),
+        }
     }
 }
 

@@ -9,7 +9,8 @@ ghost use Rattle.ap_cli.specs.Output.{GainsFront, TakesShort};
 ghost use Rattle.ap_cli.specs.Overlay.{Overlays, LaidAllButOne};
 ghost use Rattle.ap_cli.specs.Refusals.{Refuses, status_of, refusal_line};
 ghost use Rattle.ap_cli.specs.Run.{Ran, AreFirst, OnLast};
-ghost use Rattle.ap_cli.specs.Store.{Gained, StoppedAt, IsStoreCause};
+ghost use Rattle.ap_cli.specs.Soundness.{IsSound};
+ghost use Rattle.ap_cli.specs.Store.{Gained, StoppedAt, LeavesOnly, IsStoreCause};
 ghost use Rattle.ap_cli.specs.Unbuilt.{IsUnbuilt, IsBuilt};
 ghost use Rattle.ap_cli.specs.Work.{copy_name, version_of};
 ghost use Rattle.ap_cli.specs.Words.{IsBatch, OnBatch};
@@ -61,6 +62,10 @@ pub fn run<T: Tree, C: CacheDir, D: Disk, B: Builders + Sync, O: Sink>(
         (λ folder files. IfSome (D.seen store.old.0) (OnLast (AreFirst B.creates B.makes (B.offers builders.now) folder given) files))) }
     ensures out_of_memory { result ≡ 8 → (store.new ≡ store.old) ⊎ StoppedAt D.seen D.may_leave D.clock D.left_at D.room D.faults store.old store.new (λ given. (given ≡ []) ⊎ OnBatch words.now (T.files tree.old)
         (λ folder files. IfSome (D.seen store.old.0) (OnLast (AreFirst B.creates B.makes (B.offers builders.now) folder given) files))) }
+
+    // Over a store whose records are the builder's answers, each image of each moment is one of before or such a store.
+    ensures sound { IfSome (T.files tree.old) (λ files. IfSome (D.seen store.old.0) (λ file. IsSound B.creates B.makes file
+        → LeavesOnly D.seen D.may_leave D.clock D.left_at D.room D.faults store.old store.new (IsSound B.creates B.makes))) }
 
     // When each refusal comes. Want of memory alone, 8, is free.
     ensures usage { result ≡ 2 → (folder : List ℕ) → ¬ IsBatch words.now folder }
@@ -149,7 +154,7 @@ fn refuse<O: Sink>(alloc: Global, out: &mut O, stop: Stop) -> u8
     ensures later { O.faults out.old ≤ O.faults out.new }
 {
     match stop.line(alloc) {
-        Ok(line) => say(out, stop, &line),
+        Ok(line) => say(out, stop, line.as_slice()),
         Err(_) => say(out, Stop::Memory, OUT_OF_MEMORY),
     }
 }

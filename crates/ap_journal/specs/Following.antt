@@ -3,13 +3,14 @@ use Rattle.std.proofs.Common.{◌≡◌, ℕ, suc, ◌+◌, ◌≤◌, ◌<◌, 
 use Rattle.std.specs.Prelude.{IfSome, nat_lt}
 use Rattle.std.specs.List.{AllByRecursion}
 use Rattle.std.proofs.lemmas.Bool.{cases_lt}
-use Rattle.std.proofs.lemmas.List.{take-append-le, take_all, length-append}
+use Rattle.std.proofs.lemmas.List.{take-append-le, take_all, length-append, append-nil}
 use Rattle.std.proofs.Math.Seq.{take-length}
 use Rattle.ap_disk.specs.Calls.{TellsAs}
 use Rattle.ap_disk.specs.Crashes.{Only}
 use Rattle.ap_journal.specs.Records.{standing, has_bad_header, IsStoreOf, IsSameStore}
 use Rattle.ap_journal.specs.Moments.{Elapsed, Began, BetweenClocks, Steps, Opens}
 use Rattle.ap_journal.specs.Between.{rests_on, rests_still}
+use Rattle.ap_journal.specs.Told.{one as each}
 use Rattle.ap_journal.specs.Commits.{Holds, HasFirst, count_before, Rises, Committed, Started, Commits, CommitsAll, RunsOn}
 
 -- ---- images
@@ -186,10 +187,6 @@ onward (Some x) None told'' R S T one two both = absurd one
 onward (Some x) (Some y) None R S T one two both = two
 onward (Some x) (Some y) (Some z) R S T one two both = both x y z one two
 
-each : (told : Option (List ℕ)) (P Q : List ℕ → Type 0) → IfSome told P → ((x : List ℕ) → P x → Q x) → IfSome told Q
-each None P Q p both = tt
-each (Some x) P Q p both = both x p
-
 -- once all of them answered Ok and nothing is pending, each image has them
 acknowledged : (told told' : Option (List ℕ)) (all : List (List ℕ)) (leaves : List ℕ → Type 0) → TellsAs told told' (λ o n. standing n ≡ standing o ++ all)
     → IfSome told (λ file. has_bad_header file ≡ false) → IfSome told' (λ file. has_bad_header file ≡ false) → Only told' leaves → (c : List ℕ) → leaves c → IfSome told (λ file. HasFirst file all (length all) c)
@@ -288,11 +285,7 @@ module _ {D : Type 0} (seen : D → Option (List ℕ)) (may_leave : D → List �
 
       here : (c : List ℕ) → may_leave old.0 c → (told : Option (List ℕ)) → Only told (may_leave old.0) → IfSome told (λ file. HasFirst file [] 0 c)
       here c left None o = tt
-      here c left (Some file) o = inl (subst (λ (f : List ℕ). Holds file [] f) (sym (o c left)) (record { stand = plain (standing file); header = refl }))
-        where
-          plain : (l : List (List ℕ)) → l ≡ l ++ []
-          plain [] = refl
-          plain (x ∷ l) = ap (λ r. x ∷ r) (plain l)
+      here c left (Some file) o = inl (subst (λ (f : List ℕ). Holds file [] f) (sym (o c left)) (record { stand = sym (append-nil (standing file)); header = refl }))
 
   -- commits behind an opening
   pub runs_on : (old mid new : D × D) (given : List (List ℕ)) (answered : ℕ)
@@ -311,11 +304,7 @@ module _ {D : Type 0} (seen : D → Option (List ℕ)) (may_leave : D → List �
     where
       first : (c : List ℕ) → IfSome (seen old.0) (λ file. IsSameStore file c) → Has old given 0 c
       first c same_store = each (seen old.0) (λ file. IsSameStore file c) (λ file. HasFirst file given 0 c) same_store
-          (λ file s. inl (record { stand = s.same ∙ plain (standing file); header = s.header }))
-        where
-          plain : (l : List (List ℕ)) → l ≡ l ++ []
-          plain [] = refl
-          plain (x ∷ l) = ap (λ r. x ∷ r) (plain l)
+          (λ file s. inl (record { stand = s.same ∙ sym (append-nil (standing file)); header = s.header }))
 
       holds : (o m : List ℕ) (added : List (List ℕ)) (c : List ℕ) → standing m ≡ standing o → has_bad_header o ≡ false → has_bad_header m ≡ false → Holds m added c → Holds o added c
       holds o m added c are g k has = record { stand = has.stand ∙ ap (λ l. l ++ added) are; header = has.header ∙ k ∙ sym g }
@@ -357,13 +346,9 @@ module _ {D : Type 0} (seen : D → Option (List ℕ)) (may_leave : D → List �
     other = opens.other;
   }
     where
-      plain : (l : List (List ℕ)) → l ≡ l ++ []
-      plain [] = refl
-      plain (x ∷ l) = ap (λ r. x ∷ r) (plain l)
-
       first : (c : List ℕ) → IfSome (seen old.0) (λ file. IsSameStore file c) → Has old [] 0 c
       first c same_store = each (seen old.0) (λ file. IsSameStore file c) (λ file. HasFirst file [] 0 c) same_store
-          (λ file s. inl (record { stand = s.same ∙ plain (standing file); header = s.header }))
+          (λ file s. inl (record { stand = s.same ∙ sym (append-nil (standing file)); header = s.header }))
 
       either : (c : List ℕ) → may_leave old.0 c ⊎ IfSome (seen old.0) (λ file. IsSameStore file c) → may_leave old.0 c ⊎ Has old [] 0 c
       either c (inl left) = inl left

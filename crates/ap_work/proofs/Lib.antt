@@ -1,4 +1,3 @@
 pub mod Chain
-pub mod Told
 pub mod Reading
 pub mod Folding

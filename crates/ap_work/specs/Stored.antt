@@ -3,7 +3,7 @@ use Rattle.std.specs.Prelude.{◌≡◌, ℕ, List, Some}
 use Rattle.std.specs.Str.{str_to_ascii_lowercase}
 use Rattle.ap_text.specs.PathRules.{IsRelPath}
 use Rattle.ap_text.specs.NameRules.{IsFileName}
-use Rattle.ap_work.specs.Fields.{Record, fields_lem}
+use Rattle.ap_work.specs.Fields.{Record, fields_lem, AreInRange}
 use Rattle.ap_work.specs.declared.stored.Stored.{Stored}
 use Rattle.ap_work.specs.declared.worked.Worked.{Worked}
 
@@ -24,3 +24,9 @@ pub record IsStored (payload : List ℕ) (stored : Stored) : Type 0 where
   pub fields : fields_lem payload ≡ Some (fields_of stored)
   pub path : IsFoldedPath stored.path
   pub name : IsFileName stored.name
+
+-- fields that are read again from what they spell, where the path is folded: their lengths fit, and path and name keep to their grammars
+pub record AreFit (fields : Record) : Type 0 where
+  pub range : AreInRange fields
+  pub path : IsRelPath fields.path
+  pub name : IsFileName fields.name

@@ -6,7 +6,7 @@ ghost use Rattle.ap_journal.specs.Moments.{Steps};
 ghost use Rattle.ap_journal.specs.State.{IsOf};
 ghost use Rattle.ap_work.specs.declared.fault.WorkFault.TheVariants.{OutOfMemory, DiskFault, Full};
 ghost use Rattle.ap_work.specs.Fields.{spelled};
-ghost use Rattle.ap_work.specs.Stored.{fields_of_worked};
+ghost use Rattle.ap_work.specs.Stored.{fields_of_worked, AreFit};
 
 use crate::fault::WorkFault;
 use crate::opening::GREATEST;
@@ -30,6 +30,8 @@ pub fn keep<D: Disk>(
     ensures records { OnOk result (TellsAs (D.seen store.old.0) (D.seen store.new.0)
         (λ old new. standing new ≡ standing old ++ (spelled (fields_of_worked work.now) ∷ []))) }
     ensures size { OnOk result (journal.new.size ≡ journal.old.size + (length (spelled (fields_of_worked work.now)) + 5)) }
+    ensures fit { OnOk result (AreFit (fields_of_worked work.now)) }
+    ensures fit_then { IfErr result (λ stop. stop ≡ DiskFault → AreFit (fields_of_worked work.now)) }
     ensures unspent { OnOk result (journal.new.spent ≡ false) }
     ensures limit { journal.new.limit ≡ journal.old.limit }
     ensures full { IfErr result (λ stop. (l w : ℕ) → stop ≡ Full l w

@@ -1,6 +1,6 @@
-ghost use Rattle.std.specs.Prelude.{◌≡◌, ◌<◌, ◌≤◌, ◌^◌, ◌+◌, ◌++◌, length, MatchOption, IfOk, OnOk};
+ghost use Rattle.std.specs.Prelude.{◌≡◌, ◌<◌, ◌≤◌, ◌^◌, ◌+◌, ◌++◌, length, MatchOption, IfOk, IfSome, OnOk};
 ghost use Rattle.ap_work.specs.Fields.{spelled, spelled_short, spelled_long};
-ghost use Rattle.ap_work.specs.Stored.{fields_of_worked};
+ghost use Rattle.ap_work.specs.Stored.{fields_of_worked, AreFit};
 
 use ap_text::{FileName, RelPath};
 use std::alloc::{AllocError, Global};
@@ -22,7 +22,8 @@ const FIXED: u64 = 21;
 
 /// How many bytes the record of a piece of work takes in a file; None where that isn't below 2^64.
 pub(crate) fn record_size(work: &Worked<'_>) -> Option<u64>
-    ensures { MatchOption result (2 ^ 64 ≤ length (spelled (fields_of_worked work.now)) + 5) (λ size. size ≡ length (spelled (fields_of_worked work.now)) + 5) }
+    ensures size { MatchOption result (2 ^ 64 ≤ length (spelled (fields_of_worked work.now)) + 5) (λ size. size ≡ length (spelled (fields_of_worked work.now)) + 5) }
+    ensures fit { IfSome result (λ size. size ≤ 2 ^ 32 → AreFit (fields_of_worked work.now)) }
 {
     let path = work.path.as_slice().len() as u64;
     let name = work.name.as_slice().len() as u64;

@@ -12,6 +12,7 @@ use Rattle.ap_cli.specs.Run.{Ran}
 use Rattle.ap_cli.specs.Store.{Gained}
 use Rattle.ap_cli.specs.Words.{OnBatch}
 use Rattle.ap_cli.proofs.Refusing.{is_output, said_as, says_nothing, caused_as, other_than}
+use Rattle.ap_cli.proofs.StayingSound.{stays_sound}
 use Rattle.ap_cli.proofs.top.run.Goals as goal
 
 pub returns-in-Err-clause-front : goal.returns-in-Err-clause-front
@@ -35,3 +36,13 @@ returns-in-Err-clause-line g c = λ some other.
       front = subst (λ out. GainsFront (g.O.Sink.written out) (g.O.Sink.written c.refuse.new.out) (refusal_line said.0)) same said.3;
       whole = subst (λ out. Gains (g.O.Sink.written out) (g.O.Sink.written c.refuse.new.out) (refusal_line said.0) ⊎ Rose (g.O.Sink.faults out) (g.O.Sink.faults c.refuse.new.out)) same said.4;
     }
+
+pub returns-in-Ok-clause-sound : goal.returns-in-Ok-clause-sound
+returns-in-Ok-clause-sound g c =
+    stays_sound g.B.Builders.creates g.B.Builders.makes g.D.Disk.seen g.D.Disk.may_leave g.D.Disk.clock g.D.Disk.left_at g.D.Disk.room g.D.Disk.faults (g.B.Builders.offers c.args.builders.now) c.args.words.now
+    (g.T.Tree.files c.args.tree.now) c.args.store.now c.run_batch.new.store c.run_batch.ensures.stopped
+
+pub returns-in-Err-clause-sound : goal.returns-in-Err-clause-sound
+returns-in-Err-clause-sound g c =
+    stays_sound g.B.Builders.creates g.B.Builders.makes g.D.Disk.seen g.D.Disk.may_leave g.D.Disk.clock g.D.Disk.left_at g.D.Disk.room g.D.Disk.faults (g.B.Builders.offers c.args.builders.now) c.args.words.now
+    (g.T.Tree.files c.args.tree.now) c.args.store.now c.run_batch.new.store c.run_batch.ensures.stopped

@@ -4,7 +4,7 @@ use Rattle.ap_work.specs.Stored.{IsStored}
 use Rattle.ap_work.specs.Last.{record_of, HasLast, IsBadRecord}
 use Rattle.ap_work.specs.declared.stored.Stored.{Stored}
 use Rattle.ap_journal.specs.Between.{and_on}
-use Rattle.ap_work.proofs.Told.{two, not_some}
+use Rattle.ap_journal.specs.Told.{two, not_some}
 use Rattle.ap_work.proofs.Reading.{HasRead, read_more, bad_here, all_read}
 use Rattle.ap_work.proofs.opening.read_all.Goals as goal
 
