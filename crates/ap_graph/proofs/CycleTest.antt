@@ -13,7 +13,7 @@ use Rattle.ap_graph.specs.declared.node.JobNode.{JobNode}
 use Rattle.ap_graph.specs.Chain.{Chain, step, through}
 use Rattle.ap_text.specs.JobOrder.{same_job}
 use Rattle.ap_graph.specs.Nodes.{node_at, edges, targets_of, IsOnCycle}
-use Rattle.ap_graph.proofs.Members.{Contains-none, Contains-cons_cases, Contains-head, Contains-tail_of}
+use Rattle.ap_text.proofs.Members.{Contains-none, Contains-cons_cases, Contains-head, Contains-tail_of}
 use Rattle.ap_graph.proofs.IdOrder.{same_job-Decides}
 
 -- the ends of the chains of at most n steps

@@ -23,7 +23,7 @@ use Rattle.ap_graph.specs.Nodes.{node_cmp, is_node, IsResolved, IsOnCycle}
 use Rattle.ap_graph.specs.Places.{HavePlaces}
 use Rattle.ap_graph.specs.Jobs.{GraphJob, nodes_of, job_at, is_job, has_settled, state_by, state_at, state_of, with_progress, issue_cmp, IsNext, AreNew}
 use Rattle.ap_graph.specs.Held.{nodes_held, marked, targets_in, waits_in, all_targets, all_waits, open_count, is_pending, can_start, EdgesWithin, IsPlan, IsCount, MatchesWaits}
-use Rattle.ap_graph.proofs.Members.{Contains-none, Contains-cons_cases, Contains-head, Contains-tail_of, Contains-map, Contains-map_cases, AllByRecursion-at, AllByRecursion-from}
+use Rattle.ap_text.proofs.Members.{Contains-none, Contains-cons_cases, Contains-head, Contains-tail_of, Contains-map, Contains-map_cases, AllByRecursion-at, AllByRecursion-from}
 use Rattle.ap_graph.proofs.RowFacts.{count_of-same, count_of-other}
 use Rattle.ap_graph.proofs.Parting.{arrow_forth, has_row}
 use Rattle.ap_graph.proofs.Releasing.{changed_at}

@@ -25,7 +25,7 @@ use Rattle.ap_graph.specs.Nodes.{node_at, targets_of, edges, IsOnCycle}
 use Rattle.ap_graph.specs.Jobs.{GraphJob, nodes_of, job_at, is_job, has_settled, has_settled_at, is_settled, state_by, state_at, state_of, with_progress, issue_cmp}
 use Rattle.ap_graph.specs.Held.{named, node_of, nodes_held, marked, targets_in, waits_in, all_targets, all_waits, open_count, EdgesWithin}
 use Rattle.ap_graph.specs.Contest.{priority_at, contest_cmp}
-use Rattle.ap_graph.proofs.Members.{Contains-map, Contains-map_cases}
+use Rattle.ap_text.proofs.Members.{Contains-map, Contains-map_cases}
 use Rattle.ap_graph.proofs.IdOrder.{same_job-Decides, same_job-itself, not_same_job, rises_at, one_place}
 
 -- sorted by what a function gives is sorted once it is applied

@@ -20,7 +20,7 @@ use Rattle.ap_graph.specs.declared.node.JobNode.{JobNode}
 use Rattle.ap_text.specs.JobOrder.{job_cmp, same_job, job_total}
 use Rattle.ap_graph.specs.Ids.{nobody, name_at}
 use Rattle.ap_graph.specs.Nodes.{node_cmp, HasDistinctIds}
-use Rattle.ap_graph.proofs.Members.{AllByRecursion-at}
+use Rattle.ap_text.proofs.Members.{AllByRecursion-at}
 
 pub node_total : IsTotalOrder node_cmp
 node_total = on_total (λ (a : JobNode). a.id) job_total

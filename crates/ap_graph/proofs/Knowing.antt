@@ -13,7 +13,7 @@ use Rattle.ap_graph.specs.declared.node.Progress.{Progress}
 use Rattle.ap_text.specs.JobOrder.{job_cmp, same_job}
 use Rattle.ap_graph.specs.Nodes.{node_cmp, is_node, HasDistinctIds}
 use Rattle.ap_graph.specs.Jobs.{GraphJob, job_at, is_job, with_progress, AreNew}
-use Rattle.ap_graph.proofs.Members.{Contains-none, Contains-cons_cases, Contains-map_cases, AllByRecursion-from}
+use Rattle.ap_text.proofs.Members.{Contains-none, Contains-cons_cases, Contains-map_cases, AllByRecursion-from}
 use Rattle.ap_graph.proofs.IdOrder.{node_total, same_job-itself}
 
 is_job-with_progress : (id : JobId) (p : Progress) (jobs : List GraphJob) (x : JobId) → is_job (with_progress id p jobs) x ≡ is_job jobs x

@@ -1,4 +1,3 @@
-pub mod Members
 pub mod RowFacts
 pub mod ChainFacts
 pub mod Searching

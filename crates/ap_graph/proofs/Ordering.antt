@@ -9,7 +9,7 @@ use Rattle.ap_graph.specs.declared.order.Visit.{Visit}
 use Rattle.ap_graph.specs.declared.order.Visit.TheVariants.{Enter, Leave}
 use Rattle.ap_graph.specs.Rows.{row_at, IsClosed}
 use Rattle.ap_graph.specs.Visits.{entered, IsWithin}
-use Rattle.ap_graph.proofs.Members.{Contains-none}
+use Rattle.ap_text.proofs.Members.{Contains-none}
 
 -- each number is still to be entered, or it was; and if it was, it is still to be left, or it is in the order
 pub record Walking (n : ℕ) (seen : List Bool) (stack : List Visit) (order : List ℕ) : Type 0 where

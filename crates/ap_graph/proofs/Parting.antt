@@ -6,7 +6,7 @@ use Rattle.std.proofs.lemmas.Bool.{cases_eq, cases_lt, eqb-true, eq-eqb, true≢
 use Rattle.ap_graph.specs.Chain.{Chain, step, through, Reaches}
 use Rattle.ap_graph.specs.Rows.{row_at, IsClosed, IsReverse}
 use Rattle.ap_graph.specs.Groups.{IsMoved, MovesReached, IsApart, IsWhole, AreParts, leads_into_lem, TellsInside, TellsCycles}
-use Rattle.ap_graph.proofs.Members.{Contains-none, Contains-cons_cases, Contains-head, Contains-tail_of}
+use Rattle.ap_text.proofs.Members.{Contains-none, Contains-cons_cases, Contains-head, Contains-tail_of}
 use Rattle.ap_graph.proofs.RowFacts.{Contains-from_count, count_from_Contains}
 use Rattle.ap_graph.proofs.Ordering.{All_front}
 use Rattle.ap_graph.proofs.ChainFacts.{chain_join, chain_push, reach_first, reach_join}

@@ -5,7 +5,7 @@ use Rattle.std.proofs.lemmas.List.{map-set, get_or-map, get_or_past, length-map,
 use Rattle.std.proofs.lemmas.Bool.{eq-eqb, eqb-true, cases_eq, cases_order}
 use Rattle.ap_graph.specs.Rows.{row_at, count_of, AddsBack, IsClosed}
 use Rattle.std.proofs.lemmas.List.Elements.{Contains-get_or}
-use Rattle.ap_graph.proofs.Members.{Contains-none, Contains-cons_cases, Contains-head, Contains-tail_of}
+use Rattle.ap_text.proofs.Members.{Contains-none, Contains-cons_cases, Contains-head, Contains-tail_of}
 
 pub added : (rows : List (Vec ℕ Global)) (self : List (List ℕ)) (from to : ℕ) (old new : Vec ℕ Global) →
     map (λ row. row.items) rows ≡ self → from < length self → old ≡ get_or rows from old → new.items ≡ old.items ++ to ∷ [] →

@@ -6,7 +6,7 @@ use Rattle.std.proofs.lemmas.Bool.{cases_eq}
 use Rattle.ap_graph.specs.Chain.{Reaches}
 use Rattle.ap_graph.specs.Rows.{row_at, count_of, IsClosed}
 use Rattle.ap_graph.specs.Groups.{IsMoved}
-use Rattle.ap_graph.proofs.Members.{Contains-none, Contains-cons_cases}
+use Rattle.ap_text.proofs.Members.{Contains-none, Contains-cons_cases}
 use Rattle.ap_graph.proofs.RowFacts.{count_of-same, count_of-other, targets_within}
 use Rattle.ap_graph.proofs.ChainFacts.{reach_push}
 
