@@ -9,6 +9,7 @@ use Rattle.ap_builder.specs.declared.work.CreateAnswer.{CreateAnswer}
 use Rattle.ap_builder.specs.declared.work.JobInput.{JobInput}
 use Rattle.ap_builder.specs.declared.work.Outcome.{Outcome}
 use Rattle.ap_config.specs.declared.offer.Offer.{Offer}
+use Rattle.ap_text.proofs.Members.{AllByRecursion-join}
 use Rattle.ap_journal.specs.Records.{standing}
 use Rattle.ap_journal.specs.Moments.{BetweenClocks}
 use Rattle.ap_journal.specs.Commits.{Holds, HasFirst, Started, count_before}
@@ -17,10 +18,6 @@ use Rattle.ap_cli.specs.Soundness.{IsSoundRecord, IsSound}
 use Rattle.ap_cli.specs.Sources.{Files}
 use Rattle.ap_cli.specs.Store.{StoppedAt, LeavesOnly}
 use Rattle.ap_cli.specs.Words.{OnBatch}
-
-all_behind : {X : Type 0} (P : X → Type 0) (xs ys : List X) → AllByRecursion P xs → AllByRecursion P ys → AllByRecursion P (xs ++ ys)
-all_behind P [] ys all more = more
-all_behind P (x ∷ xs) ys all more = (all.0, all_behind P xs ys all.1 more)
 
 all_taken : {X : Type 0} (P : X → Type 0) (n : ℕ) (xs : List X) → AllByRecursion P xs → AllByRecursion P (take n xs)
 all_taken P zero xs all = tt
@@ -32,7 +29,7 @@ module _ (creates : List ℕ → CreateInput → CreateAnswer) (makes : JobInput
   held_sound : (file c : List ℕ) (added : List (List ℕ)) → IsSound creates makes file → AllByRecursion (IsSoundRecord creates makes) added → Holds file added c → IsSound creates makes c
   held_sound file c added sound all holds = record {
     marked = holds.header ∙ sound.marked;
-    each = subst (AllByRecursion (IsSoundRecord creates makes)) (sym holds.stand) (all_behind (IsSoundRecord creates makes) (standing file) added sound.each all);
+    each = subst (AllByRecursion (IsSoundRecord creates makes)) (sym holds.stand) (AllByRecursion-join (IsSoundRecord creates makes) (standing file) added sound.each all);
   }
 
   first_sound : (file c : List ℕ) (given : List (List ℕ)) (count : ℕ) → IsSound creates makes file → AllByRecursion (IsSoundRecord creates makes) given → HasFirst file given count c → IsSound creates makes c

@@ -1,9 +1,9 @@
 -- The records that a run gives are the builder's answers.
 use Rattle.std.proofs.Common.{◌≡◌, ℕ, Bool, true, false, List, [], ◌∷◌, refl, sym, ◌∙◌, ap, subst}
-use Rattle.std.specs.Prelude.{Some, Contains, is_none, cond}
+use Rattle.std.specs.Prelude.{Some, is_none, cond}
 use Rattle.std.specs.List.{AllByRecursion}
 use Rattle.std.specs.Str.{str_to_ascii_lowercase}
-use Rattle.std.proofs.lemmas.List.Elements.{Contains-append_left, Contains-append_right, Contains-push}
+use Rattle.ap_text.proofs.Members.{AllByRecursion-from}
 use Rattle.ap_builder.specs.declared.work.CreateInput.{CreateInput}
 use Rattle.ap_builder.specs.declared.work.CreateAnswer.{CreateAnswer}
 use Rattle.ap_builder.specs.declared.work.JobInput.{JobInput}
@@ -28,10 +28,6 @@ IsFolded source = str_to_ascii_lowercase source.path ≡ source.path
 folded : (folder : List ℕ) (files : Files) (source : Source) → IsSource folder files source → IsFolded source
 folded folder files source is =
     ap str_to_ascii_lowercase is.folds ∙ folded_stays (str_to_ascii_lowercase source.name) (fold_gives_folded source.name) ∙ sym is.folds
-
-all_of : {X : Type 0} (P : X → Type 0) (xs : List X) → ((x : X) → Contains xs x → P x) → AllByRecursion P xs
-all_of P [] each = tt
-all_of P (x ∷ xs) each = (each x (Contains-append_left (x ∷ []) xs x (Contains-push [] x)), all_of P xs (λ y has. each y (Contains-append_right (x ∷ []) xs y has)))
 
 needed_too : (P : Source → Type 0) (version : ℕ) (last : Last) (sources : List Source) → AllByRecursion P sources → AllByRecursion P (needed_of version last sources)
 needed_too P version last [] all = tt
@@ -74,4 +70,4 @@ pub next_are_sound : (creates : List ℕ → CreateInput → CreateAnswer) (make
     AreSources folder files sources → AreNext creates makes version (needed_of version last sources) given → AllByRecursion (IsSoundRecord creates makes) given
 next_are_sound creates makes version last sources folder files given are next =
     all_sound creates makes version given (needed_of version last sources) next.jobs
-    (needed_too IsFolded version last sources (all_of IsFolded sources (λ source has. folded folder files source ((are.lists.holds source).0 has)))) next.created next.fit
+    (needed_too IsFolded version last sources (AllByRecursion-from IsFolded sources (λ source has. folded folder files source ((are.lists.holds source).0 has)))) next.created next.fit

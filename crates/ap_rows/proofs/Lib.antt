@@ -1,5 +1,4 @@
 pub mod Digits
-pub mod Deciding
 pub mod ProductsTold
 pub mod RowByRow
 pub mod ProductsBack
@@ -13,3 +12,8 @@ pub mod Numbers
 pub mod Lengths
 pub mod ItemByItem
 pub mod ChangeByItem
+pub mod FormWalks
+pub mod TextWalks
+pub mod FormsWalked
+pub mod ThingBack
+pub mod NodesTold

@@ -13,7 +13,9 @@ use Rattle.ap_rows.specs.declared.row.OutcomeRow.TheVariants.{Done, Failed}
 use Rattle.ap_rows.specs.declared.row.JobResult.TheVariants.{Processed, Cycle, Missing, DepFailed}
 use Rattle.ap_rows.specs.declared.change.Item.TheVariants.{Define, Drop, PutSource, RemoveSource, PutCreate, RemoveCreate, PutJob, RemoveJob, PutFolders}
 use Rattle.ap_rows.specs.Fields.{number_field, run_field, list_field, path_field, name_field, job_field}
-use Rattle.ap_rows.specs.Readers.{◌>>=◌, gives, number, run_of, list_of, raw_path, path, name, platform, file_name, job_id, is_rel_path, is_folded, is_name, is_platform, is_file_name}
+use Rattle.ap_text.specs.PathRules.{is_rel_path}
+use Rattle.ap_text.specs.NameRules.{is_name, is_platform, is_file_name}
+use Rattle.ap_rows.specs.Readers.{◌>>=◌, gives, number, run_of, list_of, raw_path, path, name, platform, file_name, job_id, is_folded}
 use Rattle.ap_rows.specs.Grammar.{thing_number, kind_by, dep_kind, dependency, job_desc, seen_by, seen, created_by, created, outcome_by, outcome, result_by, job_result, folder_row, source_row, create_row, job_row, define, item_by, item}
 use Rattle.ap_rows.specs.Spelling.{thing_field, kind_byte, dependency_field, desc_field, seen_field, created_field, outcome_field, result_field, folder_field, source_field, create_field, job_row_field, item_field}
 use Rattle.ap_rows.specs.Folded.{is_folded_job, is_folded_dependency, is_folded_desc, is_folded_created, is_folded_result, is_folded_source, is_folded_create, is_folded_job_row, is_folded_item}

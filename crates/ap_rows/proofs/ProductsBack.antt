@@ -31,7 +31,7 @@ module _ {A B C D E Z : Type 0} (f : Reader A) (g : Reader B) (h : Reader C) (i 
   chain5 p q r s t a b c d e fp gq hr is jt after =
       simp append_assoc (rw (fp (q ++ (r ++ (s ++ (t ++ after)))), gq (r ++ (s ++ (t ++ after))), hr (s ++ (t ++ after)), is (t ++ after), jt after) refl)
 
-product-back : (row : ProductRow) → TypedProduct row → is_folded_product row ≡ true → Back (product_row row.bytes) (product_field row) row
+pub product-back : (row : ProductRow) → TypedProduct row → is_folded_product row ≡ true → Back (product_row row.bytes) (product_field row) row
 unfolding product_row
 product-back row t folded =
     let folds = both (list_all (λ ref. is_folded ref.path) row.refs) (list_all is_folded row.legacy.formerly) folded in

@@ -9,7 +9,8 @@ use Rattle.ap_rows.specs.declared.product.RefRow.{RefRow}
 use Rattle.ap_rows.specs.declared.product.LegacyRow.{LegacyRow}
 use Rattle.ap_rows.specs.declared.product.ProductRow.{ProductRow}
 use Rattle.ap_rows.specs.Fields.{number_field, list_field, path_field, name_field}
-use Rattle.ap_rows.specs.Readers.{◌>>=◌, gives, refuses, number, list_of, path, name, file_name, is_folded, is_name, is_file_name}
+use Rattle.ap_text.specs.NameRules.{is_name, is_file_name}
+use Rattle.ap_rows.specs.Readers.{◌>>=◌, gives, refuses, number, list_of, path, name, file_name, is_folded}
 use Rattle.ap_rows.specs.Products.{ref_field, legacy_field, product_field, node_of, is_folded_product, HasCounts, CanBeSpelled, ref_row, legacy_row, product_row, product_rows, products_by, whole}
 use Rattle.ap_rows.proofs.Numbers.{IsBytes}
 use Rattle.ap_rows.proofs.Told.{Told, then-told, gives-told, refuses-told, last-told, whether, number-told, list-counted, told2, told5}

@@ -5,8 +5,8 @@ use Rattle.std.specs.List.{list_all}
 use Rattle.std.proofs.lemmas.Int.{to_z-of_z}
 use Rattle.std.proofs.Math.Facts.{Fits-of_z}
 use Rattle.ap_content.specs.declared.node.Number.{Number}
-use Rattle.ap_text.specs.PathRules.{IsRelPath}
-use Rattle.ap_text.specs.NameRules.{IsName, IsPlatform, IsFileName}
+use Rattle.ap_text.specs.PathRules.{IsRelPath, is_rel_path}
+use Rattle.ap_text.specs.NameRules.{IsName, IsPlatform, IsFileName, is_name, is_platform, is_file_name}
 use Rattle.ap_text.specs.declared.job_id.JobId.{JobId}
 use Rattle.ap_rows.specs.declared.job.DepKind.{DepKind}
 use Rattle.ap_rows.specs.declared.job.DepKind.TheVariants.{Order, OrderOnce, Fingerprint}
@@ -27,12 +27,12 @@ use Rattle.ap_rows.specs.declared.row.JobResult.TheVariants.{Processed, Cycle, M
 use Rattle.ap_rows.specs.declared.change.Item.{Item}
 use Rattle.ap_rows.specs.declared.change.Item.TheVariants.{Define, Drop, PutSource, RemoveSource, PutCreate, RemoveCreate, PutJob, RemoveJob, PutFolders}
 use Rattle.ap_rows.specs.Fields.{number_field, run_field, list_field, path_field, name_field, job_field}
-use Rattle.ap_rows.specs.Readers.{number, run_of, list_of, raw_path, path, name, platform, file_name, job_id, is_rel_path, is_folded, is_name, is_platform, is_file_name}
+use Rattle.ap_rows.specs.Readers.{number, run_of, list_of, raw_path, path, name, platform, file_name, job_id, is_folded}
 use Rattle.ap_rows.specs.Grammar.{thing_number, kind_by, dep_kind, dependency, job_desc, seen_by, seen, created_by, created, outcome_by, outcome, result_by, job_result, folder_row, source_row, create_row, job_row, define, item_by, item}
 use Rattle.ap_rows.specs.Spelling.{thing_field, kind_byte, dependency_field, desc_field, seen_field, created_field, outcome_field, result_field, folder_field, source_field, create_field, job_row_field, item_field}
 use Rattle.ap_rows.specs.Typed.{TypedThing, TypedJob, TypedDependency, TypedDesc, TypedSeen, TypedCreated, TypedOutcome, TypedResult, TypedFolder, TypedSource, TypedCreate, TypedJobRow, TypedItem}
 use Rattle.ap_rows.specs.Folded.{is_folded_job, is_folded_dependency, is_folded_desc, is_folded_created, is_folded_result, is_folded_source, is_folded_create, is_folded_job_row, is_folded_item}
-use Rattle.ap_rows.proofs.Deciding.{path-Decides, name-Decides, platform-Decides, file_name-Decides}
+use Rattle.ap_text.proofs.Deciding.{path-Decides, name-Decides, platform-Decides, file_name-Decides}
 use Rattle.ap_rows.proofs.Chains.{ReadsBack, Back, chain1, chain2, chain3, chain4, chain7, number-back, run-back, list-back, that-back, byte-back, tag-back}
 
 -- both tests hold

@@ -7,7 +7,7 @@ use Rattle.ap_rows.specs.declared.product.ProductRow.{ProductRow}
 use Rattle.ap_rows.specs.Listing.{items_behind}
 use Rattle.ap_rows.specs.Readers.{number, refuses}
 use Rattle.ap_rows.specs.Products.{product_row, product_rows, products_by, products_of, whole}
-use Rattle.ap_rows.proofs.Deciding.{refused}
+use Rattle.ap_text.proofs.Deciding.{refused}
 use Rattle.std.proofs.lemmas.Bool.Decides.{Decides-eqb}
 
 behind-more : (front : List ProductRow) (row : ProductRow) (rest : Option (List ProductRow × List ℕ)) → items_behind front (items_behind (row ∷ []) rest) ≡ items_behind (front ++ row ∷ []) rest

@@ -10,7 +10,9 @@ use Rattle.ap_rows.specs.declared.row.OutcomeRow.TheVariants.{Done, Failed}
 use Rattle.ap_rows.specs.declared.row.JobResult.TheVariants.{Processed, Missing}
 use Rattle.ap_rows.specs.declared.change.Item.{Item}
 use Rattle.ap_rows.specs.declared.change.Item.TheVariants.{Define, Drop, PutSource, RemoveSource, PutCreate, RemoveCreate, PutJob, RemoveJob, PutFolders}
-use Rattle.ap_rows.specs.Readers.{is_rel_path, is_folded, is_name, is_platform, raw_path, path, name, platform, job_id}
+use Rattle.ap_text.specs.PathRules.{is_rel_path}
+use Rattle.ap_text.specs.NameRules.{is_name, is_platform}
+use Rattle.ap_rows.specs.Readers.{is_folded, raw_path, path, name, platform, job_id}
 use Rattle.ap_rows.specs.Grammar.{thing_number, kind_by, dep_kind, dependency, job_desc, seen_by, seen, created_by, created, outcome_by, outcome, result_by, job_result, folder_row, source_row, create_row, job_row, define, item_by, item, items_from, decoded}
 use Rattle.ap_rows.specs.Spelling.{spelled}
 

@@ -8,3 +8,10 @@ pub mod GrammarExamples
 pub mod Products
 pub mod Folding
 pub mod Listing
+pub mod ThingReaders
+pub mod Inputs
+pub mod Forms
+pub mod FormsExamples
+pub mod Walks
+pub mod InputRanges
+pub mod InputNodes

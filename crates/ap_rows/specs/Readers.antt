@@ -2,8 +2,8 @@
 use Rattle.std.specs.Prelude.{◌≡◌, ℕ, zero, suc, ◌+◌, ◌*◌, Bool, not, List, [], ◌∷◌, length, take, drop, Option, Some, None, ◌==◌, ◌&&◌, nat_le, if◌then◌else◌, option_and_then}
 use Rattle.std.specs.List.{list_all}
 use Rattle.std.specs.Str.{is_utf8}
-use Rattle.ap_text.specs.PathRules.{has_bad_part_lem, has_bad_byte_lem}
-use Rattle.ap_text.specs.NameRules.{is_name_byte_lem, is_platform_byte_lem, is_file_name_byte_lem, is_dots_lem}
+use Rattle.ap_text.specs.PathRules.{is_rel_path}
+use Rattle.ap_text.specs.NameRules.{is_name, is_platform, is_file_name}
 use Rattle.ap_text.specs.declared.job_id.JobId.{JobId}
 
 -- what begins a list of bytes, and the bytes behind it; None where nothing of this form begins it
@@ -53,22 +53,9 @@ times item (suc n) = item >>= λ x. times item n >>= λ xs. gives (x ∷ xs)
 abbrev pub list_of : {X : Type 0} → ℕ → Reader X → Reader (List X)
 list_of width item = number width >>= times item
 
--- the bytes are a relative path
-unfoldable pub is_rel_path : List ℕ → Bool
-is_rel_path path = not (length path == 0) && nat_le (length path) 240 && is_utf8 path && not (has_bad_part_lem path) && not (has_bad_byte_lem path)
-
 -- they have no upper-case letter of ASCII
 unfoldable pub is_folded : List ℕ → Bool
 is_folded path = list_all (λ b. not (nat_le 65 b && nat_le b 90)) path
-
-unfoldable pub is_name : List ℕ → Bool
-is_name name = not (length name == 0) && nat_le (length name) 32 && list_all is_name_byte_lem name
-
-unfoldable pub is_platform : List ℕ → Bool
-is_platform name = not (length name == 0) && nat_le (length name) 16 && list_all is_platform_byte_lem name
-
-unfoldable pub is_file_name : List ℕ → Bool
-is_file_name name = not (length name == 0) && nat_le (length name) 255 && not (is_dots_lem name) && list_all is_file_name_byte_lem name && is_utf8 name
 
 -- any relative path
 unfoldable pub raw_path : Reader (List ℕ)

@@ -1,5 +1,5 @@
 //! Reading a change.
-ghost use Rattle.std.specs.Prelude.{◌≡◌, ◌≤◌, ◌<◌, ℕ, IsTrue, IfOk, IfErr, OnOk, Some, None, Ok, Err, length};
+ghost use Rattle.std.specs.Prelude.{◌≡◌, ◌≤◌, ◌<◌, ℕ, IsTrue, IfOk, IfErr, OnOk, Some, None, Ok, Err, IfSome, MatchOption, length};
 ghost use Rattle.ap_rows.specs.Readers.{run_of, path};
 ghost use Rattle.ap_rows.specs.Grammar.{thing_number, dep_kind, seen, created, outcome, job_result, source_row, create_row, job_row, define, item_by, item, decoded};
 ghost use Rattle.ap_rows.specs.Spelling.{spelled};
@@ -15,7 +15,7 @@ use crate::read::{
 };
 use crate::row::{CreateRow, FolderRow, JobResult, JobRow, OutcomeRow, SeenRow, SourceRow};
 use ap_content::Number;
-use ap_text::{Bytes, List};
+use ap_text::{Bytes, List, OutOfMemory};
 use std::alloc::Global;
 
 #[tactic(auto, unfolding(crate::specs::Grammar::thing_number))]
@@ -312,6 +312,20 @@ fn read_item(reader: &mut FieldReader<'_>, alloc: Global) -> Result<Item, Unread
 {
     let byte = read_byte(reader)?;
     read_item_of(reader, alloc, byte)
+}
+
+/// The item that begins the bytes, and the bytes behind it; None where none begins them. It costs the item's
+/// bytes once.
+pub fn first_item(alloc: Global, bytes: &[u8]) -> Result<Option<(Item, &[u8])>, OutOfMemory>
+    ensures read { IfOk result (λ found. MatchOption found (item bytes.now ≡ None) (λ read. item bytes.now ≡ Some (read.0, read.1.now))) }
+    ensures shorter { IfOk result (λ found. IfSome found (λ read. length read.1.now < length bytes.now)) }
+{
+    let mut reader = FieldReader::new(bytes);
+    match read_item(&mut reader, alloc) {
+        Ok(item) => Ok(Some((item, reader.rest()))),
+        Err(Unread::Outside) => Ok(None),
+        Err(Unread::OutOfMemory) => Err(OutOfMemory),
+    }
 }
 
 /// Why bytes are no change.

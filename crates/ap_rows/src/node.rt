@@ -15,7 +15,7 @@ use ap_text::{Bytes, List, OutOfMemory, RelPath};
 use std::alloc::Global;
 
 /// The tag of a thing of products.
-const PRODUCTS_TAG: u8 = 3;
+pub(crate) const PRODUCTS_TAG: u8 = 3;
 
 impl Spell for u32 {
     ghost use Rattle.ap_rows.specs.Fields.{number_field};

@@ -4,7 +4,9 @@ ghost use Rattle.std.specs.List.{list_all};
 ghost use Rattle.std.specs.Str.{str_to_ascii_lowercase};
 ghost use Rattle.ap_text.specs.declared.job_id.JobId.{JobId};
 ghost use Rattle.ap_rows.specs.Fields.{is_width};
-ghost use Rattle.ap_rows.specs.Readers.{number, bytes_of, run_of, raw_path, path, name, platform, file_name, job_id, is_folded, is_rel_path, is_name, is_platform, is_file_name};
+ghost use Rattle.ap_text.specs.PathRules.{is_rel_path};
+ghost use Rattle.ap_text.specs.NameRules.{is_name, is_platform, is_file_name};
+ghost use Rattle.ap_rows.specs.Readers.{number, bytes_of, run_of, raw_path, path, name, platform, file_name, job_id, is_folded};
 
 use crate::fields::FieldReader;
 use ap_text::{FileName, JobId, Name, NameFault, OutOfMemory, PathFault, Platform, RelPath};
@@ -123,7 +125,7 @@ pub fn is_folded(path: &RelPath) -> bool
     has_no_capital(bytes)
 }
 
-fn has_no_capital(bytes: &[u8]) -> bool
+pub(crate) fn has_no_capital(bytes: &[u8]) -> bool
     ensures { result ≡ list_all (λ b. not (nat_le 65 b && nat_le b 90)) bytes.now }
 {
     bytes.iter().all(|byte| !matches!(*byte, b'A'..=b'Z'))

@@ -4,7 +4,7 @@ use Rattle.std.specs.Prelude.{Option, Some, None, IfSome, IsPermutation}
 use Rattle.std.specs.List.{AllByRecursion, flat_map}
 use Rattle.std.proofs.Math.Seq.{take-length}
 use Rattle.std.proofs.lemmas.List.Sorted.{Contains-permutation, IsPermutation-sym}
-use Rattle.ap_text.proofs.Members.{Contains-none, Contains-head, Contains-tail_of, Contains-cons_cases}
+use Rattle.ap_text.proofs.Members.{Contains-none, Contains-head, Contains-tail_of, Contains-cons_cases, AllByRecursion-join}
 use Rattle.std.proofs.lemmas.List.Elements.{Contains-append_left, Contains-append_right, Contains-append_cases}
 use Rattle.ap_scan.specs.Candidates.{SameMembers}
 
@@ -60,14 +60,9 @@ pub listed-same : {F X Y : Type 0} (f : X → List Y) (below : F → List X) (to
 listed-same f below None names old new lists is = tt
 listed-same f below (Some t) names old new lists is = subst (λ l. SameMembers (old ++ flat_map f (below t)) l) (sym is) (same-behind old (flat_map f (below t)) (flat_map f names) (made-same f (below t) names lists))
 
--- what all have in two lists, all have in both
-pub all-join : {X : Type 0} (P : X → Type 0) (xs ys : List X) → AllByRecursion P xs → AllByRecursion P ys → AllByRecursion P (xs ++ ys)
-all-join P [] ys of_xs of_ys = of_ys
-all-join P (x ∷ xs) ys of_xs of_ys = (of_xs.0, all-join P xs ys of_xs.1 of_ys)
-
 pub all-made : {X Y : Type 0} (P : Y → Type 0) (f : X → List Y) (xs : List X) → ((x : X) → AllByRecursion P (f x)) → AllByRecursion P (flat_map f xs)
 all-made P f [] each = tt
-all-made P f (x ∷ xs) each = all-join P (f x) (flat_map f xs) (each x) (all-made P f xs each)
+all-made P f (x ∷ xs) each = AllByRecursion-join P (f x) (flat_map f xs) (each x) (all-made P f xs each)
 
 -- a list is its first and the rest
 first-rest : {X : Type 0} (xs : List X) (x : X) → 1 ≤ length xs → x ≡ get_or xs 0 x → xs ≡ x ∷ drop 1 xs

@@ -16,8 +16,8 @@ use Rattle.ap_scan.specs.declared.results.Winner.{Winner}
 use Rattle.ap_scan.specs.Winners.{Files}
 use Rattle.ap_scan.specs.Candidates.{IsFolded}
 use Rattle.ap_scan.specs.Limits.{IsThere, size_of, bytes_of, first_over, all_seen}
+use Rattle.ap_text.proofs.Members.{AllByRecursion-join}
 use Rattle.ap_scan.specs.Reads.{winner_of, winners_in, seen_in, those_there, paths_of, winner_paths}
-use Rattle.ap_scan.proofs.Members.{all-join}
 
 abbrev one : Candidate → Seen → List Winner
 one candidate seen = those_there (winner_of candidate seen ∷ [])
@@ -103,7 +103,7 @@ one-there candidate Absent folded = tt
 one-there candidate TooLarge folded = (record { folds = folded; there = λ e. cc }, tt)
 
 pub there-step : (winners : List Winner) (candidate : Candidate) (seen : Seen) → IsFolded candidate → AllByRecursion IsThere winners → AllByRecursion IsThere (winners ++ one candidate seen)
-there-step winners candidate seen folded there = all-join IsThere winners (one candidate seen) there (one-there candidate seen folded)
+there-step winners candidate seen folded there = AllByRecursion-join IsThere winners (one candidate seen) there (one-there candidate seen folded)
 
 one-few : (candidate : Candidate) (seen : Seen) → length (one candidate seen) ≤ 1
 one-few candidate (Bytes bytes) = omega arith

@@ -1,3 +1,4 @@
+pub mod Deciding
 pub mod Folding
 pub mod Members
 pub mod Slashes

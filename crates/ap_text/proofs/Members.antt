@@ -1,5 +1,5 @@
 -- The members of a list, from its front.
-use Rattle.std.proofs.Common.{◌≡◌, ◌⊎◌, ◌<◌, List, [], ◌∷◌, Contains, map, refl, subst, inl, inr, arith, ⊎_elim}
+use Rattle.std.proofs.Common.{◌≡◌, ◌⊎◌, ◌<◌, List, [], ◌∷◌, ◌++◌, Contains, map, refl, subst, inl, inr, arith, ⊎_elim}
 use Rattle.std.specs.List.{AllByRecursion}
 use Rattle.std.proofs.lemmas.List.Elements.{Contains-append_right, Contains-append_cases, Contains-push_cases}
 
@@ -28,6 +28,11 @@ module _ {X : Type 0} where
   pub AllByRecursion-from : (P : X → Type 0) (xs : List X) → ((q : X) → Contains xs q → P q) → AllByRecursion P xs
   AllByRecursion-from P [] h = tt
   AllByRecursion-from P (x ∷ xs) h = (h x (Contains-head x xs), AllByRecursion-from P xs (λ q m. h q (Contains-tail_of x xs q m)))
+
+-- what holds of all of two lists holds of all of both
+pub AllByRecursion-join : {X : Type 0} (P : X → Type 0) (xs ys : List X) → AllByRecursion P xs → AllByRecursion P ys → AllByRecursion P (xs ++ ys)
+AllByRecursion-join P [] ys all more = more
+AllByRecursion-join P (x ∷ xs) ys all more = (all.0, AllByRecursion-join P xs ys all.1 more)
 
 -- a member's image is a member of the images
 pub Contains-map : {X Y : Type 0} (f : X → Y) (xs : List X) (x : X) → Contains xs x → Contains (map f xs) (f x)

@@ -1,7 +1,7 @@
 -- The grammars of names, platforms and file names.
 use Rattle.std.specs.Prelude.{◌≡◌, ◌≢◌, ◌≤◌, ℕ, Bool, true, false, not, ◌==◌, ◌&&◌, ◌||◌, nat_lt, nat_le, List, [], ◌∷◌, length}
 use Rattle.std.specs.List.{list_all}
-use Rattle.std.specs.Str.{IsUtf8}
+use Rattle.std.specs.Str.{IsUtf8, is_utf8}
 
 -- a lower-case letter or a digit
 abbrev pub is_platform_byte_lem : ℕ → Bool
@@ -37,3 +37,14 @@ pub record IsFileName (bytes : List ℕ) : Type 0 where
   pub named : is_dots_lem bytes ≡ false
   pub plain : list_all is_file_name_byte_lem bytes ≡ true
   pub text : IsUtf8 bytes
+
+-- ---- the tests of these
+
+unfoldable pub is_name : List ℕ → Bool
+is_name name = not (length name == 0) && nat_le (length name) 32 && list_all is_name_byte_lem name
+
+unfoldable pub is_platform : List ℕ → Bool
+is_platform name = not (length name == 0) && nat_le (length name) 16 && list_all is_platform_byte_lem name
+
+unfoldable pub is_file_name : List ℕ → Bool
+is_file_name name = not (length name == 0) && nat_le (length name) 255 && not (is_dots_lem name) && list_all is_file_name_byte_lem name && is_utf8 name

@@ -1,7 +1,7 @@
 -- The grammar of a relative path, and its parts.
-use Rattle.std.specs.Prelude.{◌≡◌, ◌≢◌, ◌≤◌, ℕ, Bool, true, false, ◌==◌, ◌&&◌, ◌||◌, nat_lt, List, [], ◌∷◌, length}
+use Rattle.std.specs.Prelude.{◌≡◌, ◌≢◌, ◌≤◌, ℕ, Bool, true, false, not, ◌==◌, ◌&&◌, ◌||◌, nat_lt, nat_le, List, [], ◌∷◌, length}
 use Rattle.std.specs.List.{list_any, slice_split, before_last, after_last}
-use Rattle.std.specs.Str.{IsUtf8}
+use Rattle.std.specs.Str.{IsUtf8, is_utf8}
 
 -- a part that names no file of its own: empty, `.` or `..`
 abbrev pub is_bad_part_lem : List ℕ → Bool
@@ -28,6 +28,10 @@ pub record IsRelPath (bytes : List ℕ) : Type 0 where
   pub text : IsUtf8 bytes
   pub parts : has_bad_part_lem bytes ≡ false
   pub plain : has_bad_byte_lem bytes ≡ false
+
+-- the test of it
+unfoldable pub is_rel_path : List ℕ → Bool
+is_rel_path path = not (length path == 0) && nat_le (length path) 240 && is_utf8 path && not (has_bad_part_lem path) && not (has_bad_byte_lem path)
 
 -- the folder of a path: what stands before its last slash, or nothing
 abbrev pub parent_lem : List ℕ → List ℕ

@@ -14,6 +14,7 @@ mod pattern;
 mod seen;
 #[cfg(test)]
 mod tests;
+mod utf8;
 
 pub use bytes::Bytes;
 pub use job_id::{AssetId, JobId};

@@ -1,12 +1,13 @@
 ghost use Rattle.std.specs.Prelude.{◌≡◌, ◌↔◌, IsTrue, IfOk};
+ghost use Rattle.ap_text.specs.NameRules as NameRules;
 ghost use Rattle.ap_text.specs.NameRules.{IsName, IsPlatform, IsFileName, is_name_byte_lem, is_platform_byte_lem, is_file_name_byte_lem, is_dots_lem};
 ghost use Rattle.std.specs.List.{list_all};
 ghost use Rattle.ap_text.specs.NameReading.{ReadsName, ReadsPlatform, ReadsFileName};
 
 use crate::memory::OutOfMemory;
+use crate::utf8::is_text;
 use std::alloc::Global;
 use std::marker::Model;
-use std::str;
 
 /// The most bytes of a name.
 const NAME_LIMIT: usize = 32;
@@ -57,6 +58,13 @@ impl Name {
         }
     }
 
+    /// Whether the bytes spell a name. It takes no memory.
+    pub fn accepts(bytes: &[u8]) -> bool
+        ensures { result ≡ NameRules.is_name bytes.now }
+    {
+        is_name(bytes)
+    }
+
     pub fn as_slice(&self) -> &[u8]
         ensures bytes { result.now ≡ self.now }
         ensures name { IsName self.now }
@@ -103,6 +111,13 @@ impl Platform {
             Ok(bytes) => Ok(Platform { bytes }),
             Err(_) => Err(NameFault::OutOfMemory),
         }
+    }
+
+    /// Whether the bytes spell a platform. It takes no memory.
+    pub fn accepts(bytes: &[u8]) -> bool
+        ensures { result ≡ NameRules.is_platform bytes.now }
+    {
+        is_platform(bytes)
     }
 
     pub fn as_slice(&self) -> &[u8]
@@ -154,6 +169,13 @@ impl FileName {
         }
     }
 
+    /// Whether the bytes spell a file name. It takes no memory.
+    pub fn accepts(bytes: &[u8]) -> bool
+        ensures { result ≡ NameRules.is_file_name bytes.now }
+    {
+        is_file_name(bytes)
+    }
+
     pub fn as_slice(&self) -> &[u8]
         ensures bytes { result.now ≡ self.now }
         ensures name { IsFileName self.now }
@@ -188,8 +210,10 @@ fn is_file_name_byte(byte: u8) -> bool
     !matches!(byte, b'/' | b'\\' | 0x7f | ..=0x1f | b'A'..=b'Z')
 }
 
+#[tactic(auto, unfolding(crate::specs::NameRules::is_name))]
 fn is_name(bytes: &[u8]) -> bool
-    ensures { IsTrue result ↔ IsName bytes.now }
+    ensures means { IsTrue result ↔ IsName bytes.now }
+    ensures told { result ≡ NameRules.is_name bytes.now }
 {
     if bytes.is_empty() || bytes.len() > NAME_LIMIT {
         return false;
@@ -197,8 +221,10 @@ fn is_name(bytes: &[u8]) -> bool
     has_name_bytes(bytes)
 }
 
+#[tactic(auto, unfolding(crate::specs::NameRules::is_platform))]
 fn is_platform(bytes: &[u8]) -> bool
-    ensures { IsTrue result ↔ IsPlatform bytes.now }
+    ensures means { IsTrue result ↔ IsPlatform bytes.now }
+    ensures told { result ≡ NameRules.is_platform bytes.now }
 {
     if bytes.is_empty() || bytes.len() > PLATFORM_LIMIT {
         return false;
@@ -206,19 +232,15 @@ fn is_platform(bytes: &[u8]) -> bool
     has_platform_bytes(bytes)
 }
 
+#[tactic(auto, unfolding(crate::specs::NameRules::is_file_name))]
 fn is_file_name(bytes: &[u8]) -> bool
-    ensures { IsTrue result ↔ IsFileName bytes.now }
+    ensures means { IsTrue result ↔ IsFileName bytes.now }
+    ensures told { result ≡ NameRules.is_file_name bytes.now }
 {
     if bytes.is_empty() || bytes.len() > FILE_NAME_LIMIT {
         return false;
     }
-    if is_dots(bytes) {
-        return false;
-    }
-    if str::from_utf8(bytes).is_err() {
-        return false;
-    }
-    has_file_name_bytes(bytes)
+    !is_dots(bytes) && has_file_name_bytes(bytes) && is_text(bytes)
 }
 
 fn has_name_bytes(bytes: &[u8]) -> bool

@@ -5,10 +5,11 @@ ghost use Rattle.std.specs.Cmp.Lexicographic.{slice_cmp, pointwise};
 ghost use Rattle.std.specs.Cmp.Rules.{comparing};
 ghost use Rattle.std.proofs.Common.{rules};
 ghost use Rattle.std.specs.Str.{str_to_ascii_lowercase};
-ghost use Rattle.ap_text.specs.PathRules.{IsRelPath, is_bad_part_lem, has_bad_part_lem, has_bad_byte_lem, parent_lem, file_name_lem};
+ghost use Rattle.ap_text.specs.PathRules.{IsRelPath, is_rel_path, is_bad_part_lem, has_bad_part_lem, has_bad_byte_lem, parent_lem, file_name_lem};
 ghost use Rattle.ap_text.specs.PathReading.{ReadsPath};
 
 use crate::memory::OutOfMemory;
+use crate::utf8::is_text;
 use std::alloc::Global;
 use std::cmp::Ordering;
 use std::marker::Model;
@@ -75,6 +76,17 @@ impl RelPath {
             Ok(text) => Ok(RelPath { text }),
             Err(_) => Err(PathFault::OutOfMemory),
         }
+    }
+
+    /// Whether the bytes spell a path. It takes no memory.
+    #[tactic(auto, unfolding(crate::specs::PathRules::is_rel_path))]
+    pub fn accepts(bytes: &[u8]) -> bool
+        ensures { result ≡ is_rel_path bytes.now }
+    {
+        if bytes.is_empty() || bytes.len() > PATH_LIMIT {
+            return false;
+        }
+        is_text(bytes) && !has_bad_part(bytes) && !has_bad_byte(bytes)
     }
 
     pub fn as_str(&self) -> &str

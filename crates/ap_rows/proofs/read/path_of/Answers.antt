@@ -1,4 +1,4 @@
-use Rattle.ap_rows.proofs.Deciding.{path-Decides, refused, broken}
+use Rattle.ap_text.proofs.Deciding.{path-Decides, refused, broken}
 use Rattle.ap_rows.proofs.read.path_of.Goals as goal
 
 pub returns-in-Ok-clause-read : goal.returns-in-Ok-clause-read

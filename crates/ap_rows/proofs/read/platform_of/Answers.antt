@@ -1,4 +1,4 @@
-use Rattle.ap_rows.proofs.Deciding.{platform-Decides, refused}
+use Rattle.ap_text.proofs.Deciding.{platform-Decides, refused}
 use Rattle.ap_rows.proofs.read.platform_of.Goals as goal
 
 pub returns-in-Ok-clause-read : goal.returns-in-Ok-clause-read

@@ -4,8 +4,9 @@ use Rattle.ap_tree.specs.Files.{names_below}
 use Rattle.ap_scan.specs.declared.candidate.Candidate.{Candidate}
 use Rattle.ap_scan.specs.Winners.{Files}
 use Rattle.ap_scan.specs.Candidates.{candidates_in, odd_in, IsFolded}
-use Rattle.ap_scan.proofs.Members.{listed-same, all-join}
+use Rattle.ap_scan.proofs.Members.{listed-same}
 use Rattle.ap_scan.proofs.Finding.{all-folded}
+use Rattle.ap_text.proofs.Members.{AllByRecursion-join}
 use Rattle.ap_scan.proofs.listing.list_folder.Goals as goal
 
 pub returns-in-Ok-add_names-clause-candidates : goal.returns-in-Ok-add_names-clause-candidates
@@ -23,4 +24,4 @@ returns-in-Ok-add_names-clause-odd g c =
 pub returns-in-Ok-add_names-clause-folded : goal.returns-in-Ok-add_names-clause-folded
 returns-in-Ok-add_names-clause-folded g c = λ folded.
     subst (λ (l : List Candidate). AllByRecursion IsFolded l) (sym c.in-Ok-add_names.ensures.candidates)
-    (all-join IsFolded c.args.listing.now.candidates.items (flat_map (candidates_in c.args.folder.now) c.deref.result.now) folded (all-folded c.args.folder.now c.deref.result.now))
+    (AllByRecursion-join IsFolded c.args.listing.now.candidates.items (flat_map (candidates_in c.args.folder.now) c.deref.result.now) folded (all-folded c.args.folder.now c.deref.result.now))

@@ -1,16 +1,15 @@
 -- The tests of paths and names mean what their grammars say.
-use Rattle.std.proofs.Common.{◌≡◌, ◌≢◌, ◌≤◌, ℕ, Bool, true, false, not, ◌==◌, leb, List, [], ◌∷◌, length, refl, ⊎_elim, arith}
+use Rattle.std.proofs.Common.{◌≡◌, ◌≢◌, ◌≤◌, ℕ, Bool, true, false, not, ◌==◌, leb, List, [], ◌∷◌, length, Result, Ok, Err, MatchResult, is_ok, refl, sym, ⊎_elim, arith}
 use Rattle.std.specs.Bool.{Decides}
 use Rattle.std.specs.List.{list_all}
 use Rattle.std.specs.Str.{is_utf8, IsUtf8}
 use Rattle.std.proofs.lemmas.Str.{IsUtf8-from_is_utf8, is_utf8-from_IsUtf8}
 use Rattle.std.proofs.lemmas.Bool.Decides.{Decides-and, Decides-like, leb_tells, nat_tests}
-use Rattle.ap_text.specs.PathRules.{IsRelPath, has_bad_part_lem, has_bad_byte_lem}
+use Rattle.ap_text.specs.PathRules.{IsRelPath, has_bad_part_lem, has_bad_byte_lem, is_rel_path}
 use Rattle.ap_text.specs.PathReading.{IsFirstBroken}
 use Rattle.ap_text.specs.declared.path.PathFault.{PathFault}
 use Rattle.ap_text.specs.declared.path.PathFault.TheVariants.{Empty, TooLong, NotUtf8, BadPart, BadByte, OutOfMemory}
-use Rattle.ap_text.specs.NameRules.{IsName, IsPlatform, IsFileName, is_name_byte_lem, is_platform_byte_lem, is_file_name_byte_lem, is_dots_lem}
-use Rattle.ap_rows.specs.Readers.{is_rel_path, is_name, is_platform, is_file_name}
+use Rattle.ap_text.specs.NameRules.{IsName, IsPlatform, IsFileName, is_name_byte_lem, is_platform_byte_lem, is_file_name_byte_lem, is_dots_lem, is_name, is_platform, is_file_name}
 
 some : (bytes : List ℕ) → Decides (not (length bytes == 0)) (bytes ≢ [])
 some [] = (λ t. absurd (cc), λ h. absurd (h refl))
@@ -71,3 +70,8 @@ broken bytes TooLong h other p = let short = p.short in omega arith
 broken bytes NotUtf8 h other p = h.2 p.text
 broken bytes BadPart h other p = let good = p.parts in let bad = h.3 in absurd (cc)
 broken bytes BadByte h other p = let good = p.plain in let bad = h.4 in absurd (cc)
+
+-- bytes that are read as text are text
+pub text-read : {S E : Type 0} (P : S → Type 0) (Q : E → Type 0) (read : Result S E) (bytes : List ℕ) → MatchResult read (λ s. P s × IsUtf8 bytes) (λ e. (¬ IsUtf8 bytes) × Q e) → is_ok read ≡ is_utf8 bytes
+text-read P Q (Ok s) bytes h = sym (is_utf8-from_IsUtf8 bytes h.1)
+text-read P Q (Err e) bytes h = sym (refused (is_utf8 bytes) (text bytes) h.0)
