@@ -1,0 +1,9 @@
+use Rattle.std.proofs.Common.{◌∙◌, sym}
+use Rattle.std.specs.Prelude.{bytes_eq}
+use Rattle.std.proofs.lemmas.Map.Text.{is_eq-slice_cmp}
+use Rattle.ap_text.specs.Order.{bytes_cmp}
+use Rattle.ap_db.proofs.Finding.{found_placed}
+use Rattle.ap_db.proofs.lawful.has_create.Goals as goal
+
+pub returns : goal.returns
+returns c = c.is_ok.ensures.value ∙ found_placed (λ row. bytes_cmp row.source c.args.source.now) (λ row. bytes_eq row.source c.args.source.now) (λ y. sym (is_eq-slice_cmp y.source c.args.source.now)) c.args.rows.now c.place_of_create.result c.place_of_create.ensures.range c.place_of_create.ensures.place

@@ -1,0 +1,10 @@
+use Rattle.std.proofs.Common.{◌≡◌, length}
+use Rattle.ap_db.specs.Lookup.{source_left, left_after}
+use Rattle.ap_db.proofs.lawful.source_after.Given as goal
+
+-- what the items left come to is what all come to
+abbrev pub invariant-loop-rest : goal.invariant-loop-rest
+invariant-loop-rest l = left_after source_left l.rest l.path l.there ≡ left_after source_left l.items l.path l.first
+
+abbrev pub decreases-loop-rest : goal.decreases-loop-rest
+decreases-loop-rest l = length l.rest

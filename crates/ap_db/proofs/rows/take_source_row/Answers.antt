@@ -1,0 +1,16 @@
+use Rattle.std.proofs.Common.{subst, List, sym}
+use Rattle.std.specs.Prelude.{bytes_eq}
+use Rattle.std.proofs.lemmas.Map.Text.{is_eq-slice_cmp}
+use Rattle.ap_text.specs.Order.{bytes_cmp}
+use Rattle.ap_rows.specs.declared.row.SourceRow.{SourceRow}
+use Rattle.ap_db.specs.Listed.{IsPlaceOf}
+use Rattle.ap_db.proofs.Places.{taken_placed}
+use Rattle.ap_db.proofs.rows.take_source_row.Goals as goal
+
+pub returns-clause-rows : goal.returns-clause-rows
+returns-clause-rows c = (taken_placed (λ row. bytes_cmp row.path c.args.path.now) (λ row. bytes_eq row.path c.args.path.now) (λ y. sym (is_eq-slice_cmp y.path c.args.path.now)) c.args.rows.now.items c.place_of_source-place.result c.take_at.new.rows.items c.take_at.result
+    (subst (λ (l : List SourceRow). IsPlaceOf (λ row. bytes_cmp row.path c.args.path.now) l c.place_of_source-place.result) c.deref.ensures.value c.place_of_source-place.ensures.place) c.take_at.ensures.taken).0
+
+pub returns-clause-taken : goal.returns-clause-taken
+returns-clause-taken c = (taken_placed (λ row. bytes_cmp row.path c.args.path.now) (λ row. bytes_eq row.path c.args.path.now) (λ y. sym (is_eq-slice_cmp y.path c.args.path.now)) c.args.rows.now.items c.place_of_source-place.result c.take_at.new.rows.items c.take_at.result
+    (subst (λ (l : List SourceRow). IsPlaceOf (λ row. bytes_cmp row.path c.args.path.now) l c.place_of_source-place.result) c.deref.ensures.value c.place_of_source-place.ensures.place) c.take_at.ensures.taken).1
