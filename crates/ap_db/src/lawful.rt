@@ -4,7 +4,6 @@ ghost use Rattle.std.specs.List.{list_all};
 ghost use Rattle.ap_content.specs.Things.{Thing};
 ghost use Rattle.ap_content.specs.Entries.{Stands};
 ghost use Rattle.ap_db.specs.Stored.{Stored};
-ghost use Rattle.ap_db.specs.Stored.{orders_rise};
 ghost use Rattle.ap_db.specs.Lawful.{is_good_thing, is_good_content, is_good_outcome, is_good_result, is_lawful_item, is_lawful, after_plain};
 ghost use Rattle.ap_db.specs.Commit.{PlainItem};
 ghost use Rattle.ap_db.specs.Tables.{PlainTables};
@@ -22,13 +21,14 @@ ghost use Rattle.ap_rows.specs.Folded.{is_folded_job, is_folded_dependency, is_f
 ghost use Rattle.ap_db.specs.NewThings.{size};
 ghost use Rattle.ap_db.specs.GoodParts.{has_good_parts, IsDescent};
 
+use crate::replay::do_orders_rise;
 use crate::rows::{place_of_create, place_of_job, place_of_source};
 use crate::state::State;
 use crate::things::thing_of;
 use ap_content::{Contents, Number};
 use ap_rows::{
-    Change, CreateRow, Created, FolderRow, Item, JobDesc, JobResult, JobRow, OutcomeRow, SeenRow,
-    SourceRow, has_form, is_folded,
+    Change, CreateRow, Created, Item, JobDesc, JobResult, JobRow, OutcomeRow, SeenRow, SourceRow,
+    has_form, is_folded,
 };
 use ap_text::{JobId, RelPath};
 
@@ -64,22 +64,6 @@ fn is_folded_created(created: &Created) -> bool
     while let [job, after @ ..] = rest {
         if !is_folded_desc(job) {
             return false;
-        }
-        rest = after;
-    }
-    true
-}
-
-/// Whether the orders of folders rise strictly.
-fn orders_rise(rows: &[FolderRow]) -> bool
-    ensures { result ≡ orders_rise rows.now }
-{
-    let mut rest = rows;
-    while let [row, after @ ..] = rest {
-        if let [next, ..] = after {
-            if row.order >= next.order {
-                return false;
-            }
         }
         rest = after;
     }
@@ -325,7 +309,7 @@ impl State {
             Item::RemoveCreate(source) => self.create_there(contents, before, source),
             Item::PutJob(row) => self.is_lawful_job(contents, row),
             Item::RemoveJob(id) => self.job_there(contents, before, id),
-            Item::PutFolders(rows) => orders_rise(rows.as_slice()),
+            Item::PutFolders(rows) => do_orders_rise(rows.as_slice()),
         }
     }
 

@@ -37,5 +37,5 @@ returns-in-RemoveJob c stored plain stands are =
 
 pub returns-in-PutFolders : goal.returns-in-PutFolders
 returns-in-PutFolders c stored plain stands are =
-    subst (λ i. Says c.orders_rise.result (ItemIs (Stands c.args.contents.now) i) (is_lawful_item stored (fold after_plain stored.tables plain))) (sym c.in-PutFolders.is)
-    (says_folders (Stands c.args.contents.now) stored (fold after_plain stored.tables plain) c.orders_rise.result c.in-PutFolders.rows (c.orders_rise.ensures ∙ ap orders_rise c.as_slice.ensures))
+    subst (λ i. Says c.do_orders_rise.result (ItemIs (Stands c.args.contents.now) i) (is_lawful_item stored (fold after_plain stored.tables plain))) (sym c.in-PutFolders.is)
+    (says_folders (Stands c.args.contents.now) stored (fold after_plain stored.tables plain) c.do_orders_rise.result c.in-PutFolders.rows (c.do_orders_rise.ensures ∙ ap orders_rise c.as_slice.ensures))
