@@ -3,18 +3,21 @@ ghost use Rattle.std.proofs.Common.{lit≤};
 ghost use Rattle.ap_text.specs.Causes.{Rose};
 
 use crate::disk::{Disk, DiskFault};
+use crate::read_ahead::ReadAhead;
 use ap_text::OutOfMemory;
 use std::fs::{Files, OpenFile, OpenOptions};
 use std::io;
 use std::io::{Read, Seek, SeekFrom, Write};
 
 /// A disk over a real file, which it opens, or makes where it is absent, at the first call. It tells nothing
-/// of its content, and its `rest` does nothing.
+/// of its content, and its `rest` does nothing. Small reads one behind another are one call of the system for
+/// some thousand bytes; a write or a cut drops what was read.
 #[derive(Drop)]
 pub struct FileDisk<R: Files> {
     rt: R,
     path: String,
     file: Option<R::File>,
+    ahead: ReadAhead,
     is_folder_synced: bool,
     faults: u64,
 }
@@ -27,6 +30,7 @@ impl<R: Files + AllocGlobal + Drop> FileDisk<R> {
             rt,
             path,
             file: None,
+            ahead: ReadAhead::new(),
             is_folder_synced: false,
             faults: 0,
         })
@@ -62,7 +66,7 @@ impl<R: Files + Drop> FileDisk<R> {
         ensures count { IfOk result (λ count. count ≤ length buf.old) }
     {
         let mut file = self.open()?;
-        let result = read_at(&mut file, at, buf);
+        let result = self.ahead.read_at(&mut file, at, buf);
         self.file = Some(file);
         result
     }
@@ -70,6 +74,7 @@ impl<R: Files + Drop> FileDisk<R> {
     fn try_write(&mut self, at: u64, bytes: &[u8]) -> io::Result<()>
         ensures { self.new.faults ≡ self.old.faults }
     {
+        self.ahead.forget();
         let mut file = self.open()?;
         let result = write_at(&mut file, at, bytes);
         self.file = Some(file);
@@ -79,6 +84,7 @@ impl<R: Files + Drop> FileDisk<R> {
     fn try_cut(&mut self, len: u64) -> io::Result<()>
         ensures { self.new.faults ≡ self.old.faults }
     {
+        self.ahead.forget();
         let mut file = self.open()?;
         let result = cut_to(&mut file, len);
         self.file = Some(file);
@@ -107,22 +113,6 @@ impl<R: Files + Drop> FileDisk<R> {
         self.faults = self.faults.saturating_add(1);
         DiskFault::Failed
     }
-}
-
-/// Reads from an offset until the buffer is full or the file ends.
-fn read_at<F: Read + Seek>(file: &mut F, at: u64, buf: &mut [u8]) -> io::Result<usize>
-    ensures { IfOk result (λ count. count ≤ length buf.old) }
-{
-    file.seek(SeekFrom::Start(at))?;
-    let mut count = 0;
-    while count < buf.len() {
-        let more = file.read(&mut buf[count..])?;
-        if more == 0 {
-            break;
-        }
-        count += more;
-    }
-    Ok(count)
 }
 
 /// Writes at an offset. A gap before it is zeros.

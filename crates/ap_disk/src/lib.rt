@@ -12,6 +12,7 @@ mod file_bytes;
 mod file_disk;
 mod memory;
 mod pair;
+mod read_ahead;
 mod replay;
 mod room_file;
 mod side;

@@ -151,3 +151,38 @@ fn a_real_file(rt: HostRuntime) -> Result<(), Fail> {
     assert_eq!(rt; Disk::room(&folder), 18446744073709551615);
     Ok(())
 }
+
+// The places lie before, on and behind the bounds of what is read at once. The byte at n is n modulo 251.
+#[test]
+fn small_reads_of_a_real_file(rt: HostRuntime) -> Result<(), Fail> {
+    let path = "file_disk_reads_test.bin";
+    let _absent = fs::remove_file(&rt, path);
+    let mut disk = FileDisk::new(rt.clone()?, path)?;
+    let mut bytes = Vec::new(rt.alloc());
+    for n in 0..20000u32 {
+        bytes.push((n % 251) as u8)?;
+    }
+    disk.write_at(0, &bytes)?;
+    let mut buf = [7u8; 8];
+    for (at, count, first) in [
+        (0u64, 8usize, 0u8),
+        (3, 8, 3),
+        (8188, 8, 156),
+        (8192, 8, 160),
+        (2, 8, 2),
+        (16380, 8, 65),
+        (19996, 4, 167),
+        (20000, 0, 167),
+    ] {
+        assert_eq!(rt; disk.read(at, &mut buf)?, count, "at {at}");
+        assert_eq!(rt; buf[0], first, "at {at}");
+    }
+    disk.write_at(8190, b"news")?;
+    assert_eq!(rt; disk.read(8188, &mut buf)?, 8);
+    assert_eq!(rt; buf.as_slice(), b"\x9c\x9dnews\xa2\xa3".as_slice());
+    disk.cut(8192)?;
+    assert_eq!(rt; disk.read(8190, &mut buf)?, 2);
+    assert_eq!(rt; &buf[..2], b"ne".as_slice());
+    fs::remove_file(&rt, path)?;
+    Ok(())
+}

@@ -1,5 +1,5 @@
 use Rattle.std.proofs.Common.{◌≤◌, ◌-◌, length}
-use Rattle.ap_disk.proofs.file_disk.read_at.Given as goal
+use Rattle.ap_disk.proofs.read_ahead.read_all_at.Given as goal
 
 abbrev pub invariant-loop-count : goal.invariant-loop-count
 invariant-loop-count g l = l.count ≤ length l.buf
