@@ -15,3 +15,4 @@ pub mod FormsExamples
 pub mod Walks
 pub mod InputRanges
 pub mod InputNodes
+pub mod Jobs

@@ -8,6 +8,8 @@ mod change;
 mod decoding;
 mod encoding;
 mod fields;
+#[cfg(test)]
+mod form_tests;
 mod forms;
 mod input;
 mod job;

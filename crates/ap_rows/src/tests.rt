@@ -219,6 +219,30 @@ fn items_are_spelled_as_by_hand(rt: HostRuntime) -> Result<(), Fail> {
     Ok(())
 }
 
+fn copied(alloc: Global, change: &Change) -> Result<Change, Fail> {
+    let mut items = Vec::new(alloc);
+    for item in change.items.as_slice() {
+        items.push(item.copy(alloc)?)?;
+    }
+    Ok(Change {
+        items: List::of(items),
+    })
+}
+
+#[test]
+fn a_copy_of_an_item_is_spelled_as_the_item(rt: HostRuntime) -> Result<(), Fail> {
+    let alloc = rt.alloc();
+    for (bytes, _) in ITEMS {
+        let change = decode(alloc, bytes).ok().ok_or("refused")?;
+        let copy = copied(alloc, &change)?;
+        assert!(rt; bytes.len() < 4294967296);
+        assert!(rt; spelled_length(&copy) == bytes.len() as u64);
+        let again = encode(alloc, &copy).ok().ok_or("no memory")?;
+        assert!(rt; again.as_slice() == bytes);
+    }
+    Ok(())
+}
+
 // The offset of a cut item is that of the item, and bytes cut between two items are the change of those before.
 #[test]
 fn a_cut_change_is_refused_where_its_item_begins(rt: HostRuntime) -> Result<(), Fail> {

@@ -1,5 +1,6 @@
 pub mod Causes
 pub mod Order
+pub mod Chain
 pub mod JobOrder
 pub mod PathRules
 pub mod PathReading
