@@ -1,6 +1,6 @@
 -- Chains, joined and one step longer.
 use Rattle.std.proofs.Common.{List, Contains, sym, subst, inl, inr}
-use Rattle.ap_graph.specs.Chain.{Chain, step, through, Reaches}
+use Rattle.ap_text.specs.Chain.{Chain, step, through, Reaches}
 
 module _ {X : Type 0} {next : X → List X} where
   pub chain_join : {a b c : X} → Chain next a b → Chain next b c → Chain next a c

@@ -10,7 +10,7 @@ use Rattle.std.proofs.lemmas.Map.Made.{length-le_from_is_member, is_member-Decid
 use Rattle.std.proofs.lemmas.Bool.{true≢false, or_cases, or_left, or_right}
 use Rattle.ap_text.specs.declared.job_id.JobId.{JobId}
 use Rattle.ap_graph.specs.declared.node.JobNode.{JobNode}
-use Rattle.ap_graph.specs.Chain.{Chain, step, through}
+use Rattle.ap_text.specs.Chain.{Chain, step, through}
 use Rattle.ap_text.specs.JobOrder.{same_job}
 use Rattle.ap_graph.specs.Nodes.{node_at, edges, targets_of, IsOnCycle}
 use Rattle.ap_text.proofs.Members.{Contains-none, Contains-cons_cases, Contains-head, Contains-tail_of}

@@ -15,7 +15,7 @@ use Rattle.ap_graph.specs.declared.node.JobNode.{JobNode}
 use Rattle.ap_graph.specs.declared.node.Progress.{Progress}
 use Rattle.ap_graph.specs.declared.node.Progress.TheVariants.{Pending}
 use Rattle.ap_graph.specs.declared.job.Job.{Job}
-use Rattle.ap_graph.specs.Chain.{Chain, step, through}
+use Rattle.ap_text.specs.Chain.{Chain, step, through}
 use Rattle.ap_text.specs.JobOrder.{job_cmp, same_job, job_total}
 use Rattle.ap_graph.specs.Ids.{nobody, name_at}
 use Rattle.ap_rows.specs.declared.job.DepKind.TheVariants.{Order}

@@ -3,7 +3,7 @@ use Rattle.std.proofs.Common.{◌≡◌, ◌≢◌, ◌<◌, ◌+◌, ◌==◌, 
 use Rattle.std.proofs.lemmas.List.{get_or_past, get_or_append_left, get_or_push, get_or_default, length_push}
 use Rattle.std.proofs.lemmas.List.Elements.{Contains-push, Contains-push_cases, All-contains}
 use Rattle.std.proofs.lemmas.Bool.{cases_eq, cases_lt, eqb-true, eq-eqb, true≢false, or_cases, or_left, or_right}
-use Rattle.ap_graph.specs.Chain.{Chain, step, through, Reaches}
+use Rattle.ap_text.specs.Chain.{Chain, step, through, Reaches}
 use Rattle.ap_graph.specs.Rows.{row_at, IsClosed, IsReverse}
 use Rattle.ap_graph.specs.Groups.{IsMoved, MovesReached, IsApart, IsWhole, AreParts, leads_into_lem, TellsInside, TellsCycles}
 use Rattle.ap_text.proofs.Members.{Contains-none, Contains-cons_cases, Contains-head, Contains-tail_of}

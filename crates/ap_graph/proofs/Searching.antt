@@ -3,7 +3,7 @@ use Rattle.std.proofs.Common.{◌≡◌, ◌≢◌, ◌<◌, ◌≤◌, ◌+◌,
 use Rattle.std.proofs.lemmas.List.{get_or-set_same, get_or-set_other, drop_more, drop_all, get_or_default, length_push}
 use Rattle.std.proofs.lemmas.List.Elements.{Contains-push, Contains-push_cases, Contains-append_left}
 use Rattle.std.proofs.lemmas.Bool.{cases_eq}
-use Rattle.ap_graph.specs.Chain.{Reaches}
+use Rattle.ap_text.specs.Chain.{Reaches}
 use Rattle.ap_graph.specs.Rows.{row_at, count_of, IsClosed}
 use Rattle.ap_graph.specs.Groups.{IsMoved}
 use Rattle.ap_text.proofs.Members.{Contains-none, Contains-cons_cases}

@@ -1,7 +1,7 @@
 -- Numbers in groups: how a search moves some of them into a group of their own.
 use Rattle.std.specs.Prelude.{◌≡◌, ◌<◌, ◌⊎◌, ◌↔◌, ◌==◌, ℕ, Bool, true, false, List, length, All, Contains, slice_index, slice_index_or}
 use Rattle.std.specs.List.{list_any}
-use Rattle.ap_graph.specs.Chain.{Chain, Reaches}
+use Rattle.ap_text.specs.Chain.{Chain, Reaches}
 use Rattle.ap_graph.specs.Rows.{row_at}
 
 -- the search moved this number: it was in the group of the start, and the start leads to it

@@ -1,4 +1,3 @@
-pub mod Chain
 pub mod Rows
 pub mod Groups
 pub mod Visits
@@ -9,3 +8,4 @@ pub mod Nodes
 pub mod Jobs
 pub mod Places
 pub mod Held
+pub mod Edges

@@ -5,7 +5,7 @@ use Rattle.std.specs.declared.cmp.Ordering.{Ordering}
 use Rattle.ap_text.specs.declared.job_id.JobId.{JobId}
 use Rattle.ap_graph.specs.declared.node.JobNode.{JobNode}
 use Rattle.ap_text.specs.JobOrder.{job_cmp, same_job}
-use Rattle.ap_graph.specs.Chain.{Chain}
+use Rattle.ap_text.specs.Chain.{Chain}
 
 -- the node of an id
 abbrev pub node_at : List JobNode → JobId → Option JobNode
