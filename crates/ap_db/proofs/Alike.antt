@@ -7,7 +7,7 @@ use Rattle.std.specs.Cmp.{IsTotalOrder}
 use Rattle.std.specs.declared.cmp.Ordering.{Ordering}
 use Rattle.std.specs.declared.cmp.Ordering.TheVariants.{Less, Equal, Greater}
 use Rattle.std.specs.Ordering.{is_eq, on, ordering_reverse, match_ordering}
-use Rattle.ap_db.specs.Changes.{put_in_order}
+use Rattle.ap_text.specs.Order.{put_in_order}
 use Rattle.ap_db.specs.Listed.{AreAll, AreBoth, total, part, replaced}
 
 module _ {X Y : Type 0} (Is : X → Y → Type 0) where

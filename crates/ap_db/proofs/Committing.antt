@@ -55,6 +55,13 @@ with_room seen may_leave room j r store is = record {
       (is.file unspent) (λ file h. record { rests = h.rests; size = h.size; place = h.place });
 }
 
+-- what was told is told again
+pub told_on : {X : Type 0} (old new : Option X) (R : X → X → Type 0) → TellsAs old new R → TellsAs old new (λ _ _. Unit {0})
+told_on None None R told = tt
+told_on None (Some new) R told = told
+told_on (Some old) None R told = told
+told_on (Some old) (Some new) R told = tt
+
 -- one that isn't spent wasn't
 pub wasnt_spent : (spent : Bool) → (spent ≡ true → ⊥) → spent ≡ false
 wasnt_spent true never = absurd (never refl)

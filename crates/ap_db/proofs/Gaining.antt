@@ -1,8 +1,7 @@
 -- A hold more, or a thing more, leaves a database beside its contents.
-use Rattle.std.proofs.Common.{◌≡◌, ◌<◌, ℕ, List, Option, Some, None, refl, sym, ◌∙◌, ap, subst}
-use Rattle.std.specs.Prelude.{IsSome, option_map}
-use Rattle.ap_content.specs.Things.{Thing, thing}
-use Rattle.ap_content.specs.Entries.{Entry, IsTidy, Stands, Gains, Lives, entry_at}
+use Rattle.std.proofs.Common.{ℕ, List, Option}
+use Rattle.ap_content.specs.Things.{Thing}
+use Rattle.ap_content.specs.Entries.{Entry, IsTidy, Stands, Gains}
 use Rattle.ap_content.specs.Laws.{Stands-gained}
 use Rattle.ap_content.specs.declared.node.Number.{Number}
 use Rattle.ap_content.specs.declared.node.Node.{Node}
@@ -16,7 +15,7 @@ use Rattle.ap_db.proofs.Holding.{held_gained}
 use Rattle.ap_db.proofs.Settling.{stands_lives}
 
 module _ (old new : List (Option Entry)) (n : Number) (node : Node) (gains : Gains old new n node) (tidy_then : IsTidy new) where
-  stands_on : IsTidy old → (k : Number) (y : Thing) → Stands old k y → Stands new k y
+  pub stands_on : IsTidy old → (k : Number) (y : Thing) → Stands old k y → Stands new k y
   stands_on tidy k y s = Stands-gained old new n node gains tidy y k (stands_lives old k y s) s
 
   pub stands_for_gained : (state : State) (stored : Stored) → StandsFor state old stored → StandsFor state new stored

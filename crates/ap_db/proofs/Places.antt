@@ -1,5 +1,5 @@
 -- Where a search ends among rows that rise by their keys, and what a put or a removal there makes of them.
-use Rattle.std.proofs.Common.{◌≡◌, ◌<◌, ◌≤◌, ◌+◌, ℕ, zero, suc, Bool, true, false, not, cond, List, [], ◌∷◌, ◌++◌, length, map, take, drop, Option, Some, None, Result, Ok, Err, refl, sym, ◌∙◌, ap, subst, arith, add-one}
+use Rattle.std.proofs.Common.{◌≡◌, ◌<◌, ◌≤◌, ◌+◌, ℕ, zero, suc, Bool, true, false, not, cond, List, [], ◌∷◌, ◌++◌, length, map, take, drop, Option, Some, None, Result, ◌-◌, Ok, Err, refl, sym, ◌∙◌, ap, subst, arith, add-one}
 use Rattle.std.specs.Prelude.{slice_index_or, slice_set, filter, find}
 use Rattle.std.specs.List.{AllByRecursion, insert, remove}
 use Rattle.std.specs.List.Sorted.{IsSortedBy, IsStrictlySortedBy, IsBinarySearchResult, IsSearchInRange}
@@ -9,7 +9,7 @@ use Rattle.std.specs.declared.cmp.Ordering.TheVariants.{Less, Equal, Greater}
 use Rattle.std.specs.Ordering.{is_lt, is_eq, ordering_reverse, match_ordering}
 use Rattle.std.proofs.lemmas.List.{take_at, drop_at}
 use Rattle.std.proofs.lemmas.List.Sorted.{searchable_from_sorted}
-use Rattle.ap_db.specs.Changes.{put_in_order}
+use Rattle.ap_text.specs.Order.{put_in_order}
 use Rattle.ap_db.specs.Listed.{IsPlaceOf, IsPutAt, IsTakenAt, replaced}
 
 module _ {X : Type 0} where
@@ -98,6 +98,47 @@ module _ {X K : Type 0} (cmp : K → K → Ordering) (total : IsTotalOrder cmp) 
         below = all_take (λ y. cmp (key y) k ≡ Less) xs i range (λ j d lt. point.0 j d (omega arith) lt);
         above = all_drop (λ y. cmp (key y) k ≡ Greater) xs i (λ j d le lt. point.1 j d le lt);
       }
+
+pub is_less : (o : Ordering) → is_lt o ≡ true → o ≡ Less
+is_less Less is = refl
+is_less Equal is = absurd (cc is)
+is_less Greater is = absurd (cc is)
+
+module _ {X K : Type 0} (cmp : K → K → Ordering) (total : IsTotalOrder cmp) (key : X → K) (k : K) where
+  -- where the last row is below, all are
+  all_below : (xs : List X) (x : X) → IsStrictlySortedBy cmp (map key (xs ++ x ∷ [])) → cmp (key x) k ≡ Less → AllByRecursion (λ y. cmp (key y) k ≡ Less) (xs ++ x ∷ [])
+  unfolding IsStrictlySortedBy
+  all_below [] x rises less = (less, tt)
+  all_below (y ∷ xs) x rises less = (total.trans (key y) (key x) k (last_of xs rises.0) less, all_below xs x rises.1 less)
+    where
+      last_of : (ys : List X) → AllByRecursion (λ z. cmp (key y) z ≡ Less) (map key (ys ++ x ∷ [])) → cmp (key y) (key x) ≡ Less
+      last_of [] all = all.0
+      last_of (z ∷ ys) all = last_of ys all.1
+
+  pub behind_last : (xs : List X) (d : X) → IsStrictlySortedBy cmp (map key xs) → 1 ≤ length xs → cmp (key (slice_index_or xs (length xs - 1) d)) k ≡ Less → IsPlaceOf (λ y. cmp (key y) k) xs (Err (length xs))
+  behind_last xs d rises some less =
+      let cut = split xs (length xs - 1) (omega (arith, some)) in
+      let none : drop (suc (length xs - 1)) xs ≡ [] = drop_all (suc (length xs - 1)) xs (omega (arith, some)) in
+      let are : xs ≡ take (length xs - 1) xs ++ cut.0 ∷ [] = cut.2 ∙ ap (λ (l : List X). take (length xs - 1) xs ++ cut.0 ∷ l) none in
+      record {
+        front = xs;
+        back = [];
+        are = sym (append_nil xs);
+        long = refl;
+        below = subst (AllByRecursion (λ y. cmp (key y) k ≡ Less)) (sym are)
+            (all_below (take (length xs - 1) xs) cut.0 (subst (λ (l : List X). IsStrictlySortedBy cmp (map key l)) are rises) (ap (λ (y : X). cmp (key y) k) (sym (cut.1 d)) ∙ less));
+        above = tt;
+      }
+    where
+      append_nil : (l : List X) → l ++ [] ≡ l
+      append_nil [] = refl
+      append_nil (x ∷ l) = ap (λ r. x ∷ r) (append_nil l)
+
+      drop_all : (n : ℕ) (l : List X) → length l ≤ n → drop n l ≡ []
+      drop_all zero [] le = refl
+      drop_all zero (x ∷ l) le = absurd (omega (arith, le))
+      drop_all (suc n) [] le = refl
+      drop_all (suc n) (x ∷ l) le = drop_all n l (omega (arith, le))
 
 module _ {X : Type 0} (rank : X → Ordering) where
   set_here : (front : List X) (here x : X) (back : List X) → slice_set (front ++ here ∷ back) (length front) x ≡ front ++ x ∷ back

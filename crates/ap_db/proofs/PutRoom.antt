@@ -8,7 +8,8 @@ use Rattle.ap_rows.specs.declared.change.Item.{Item}
 use Rattle.std.specs.List.{flat_map}
 use Rattle.ap_db.specs.declared.state.State.{State}
 use Rattle.ap_db.specs.Tables.{PlainSource, PlainCreate, PlainJob, PlainTables, PlainResult, processed, on_cycle, lacks, after_failure, done, failed}
-use Rattle.ap_db.specs.Changes.{put_in_order, source_cmp, create_cmp, job_row_cmp, with_source, with_create, with_job, without_source, without_create, without_job}
+use Rattle.ap_db.specs.Changes.{source_cmp, create_cmp, job_row_cmp, with_source, with_create, with_job, without_source, without_create, without_job}
+use Rattle.ap_text.specs.Order.{put_in_order}
 use Rattle.ap_db.specs.Commit.{PlainItem, puts_folders, puts_source, removes_source, puts_create, removes_create, puts_job, removes_job, item_things}
 use Rattle.ap_db.specs.Lawful.{after_plain}
 use Rattle.ap_db.specs.Listed.{AreAll, total, part, replaced}

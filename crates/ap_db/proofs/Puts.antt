@@ -6,7 +6,7 @@ use Rattle.std.specs.List.Sorted.{IsStrictlySortedBy}
 use Rattle.std.specs.Cmp.Lexicographic.{nat_list_cmp_total}
 use Rattle.std.specs.Ordering.{is_eq}
 use Rattle.std.proofs.lemmas.Map.Text.{is_eq-slice_cmp}
-use Rattle.ap_text.specs.Order.{bytes_cmp}
+use Rattle.ap_text.specs.Order.{bytes_cmp, put_in_order}
 use Rattle.ap_text.specs.JobOrder.{job_cmp, job_total, same_job}
 use Rattle.ap_text.specs.declared.job_id.JobId.{JobId}
 use Rattle.ap_content.specs.Things.{Thing}
@@ -17,7 +17,7 @@ use Rattle.ap_rows.specs.declared.row.CreateRow.{CreateRow}
 use Rattle.ap_rows.specs.declared.row.JobRow.{JobRow}
 use Rattle.ap_rows.specs.declared.row.Tables.{Tables}
 use Rattle.ap_db.specs.Tables.{PlainSource, PlainCreate, PlainJob, PlainTables}
-use Rattle.ap_db.specs.Changes.{with_folders, put_in_order, source_cmp, create_cmp, job_row_cmp, with_source, without_source, with_create, without_create, with_job, without_job, source_row_at, create_row_at, job_row_at}
+use Rattle.ap_db.specs.Changes.{with_folders, source_cmp, create_cmp, job_row_cmp, with_source, without_source, with_create, without_create, with_job, without_job, source_row_at, create_row_at, job_row_at}
 use Rattle.ap_db.specs.declared.things.FileThing.{FileThing}
 use Rattle.ap_db.specs.declared.state.State.{State}
 use Rattle.ap_content.specs.Entries.{Entry, IsTidy}

@@ -1,8 +1,8 @@
 -- The rows of a key, the whole changes of tables, and the tables after them.
-use Rattle.std.specs.Prelude.{ℕ, Bool, not, List, [], ◌∷◌, filter, map, fold, find, Option, is_some, ◌||◌, bytes_eq}
+use Rattle.std.specs.Prelude.{ℕ, Bool, not, List, [], filter, map, fold, find, Option, is_some, ◌||◌, bytes_eq}
 use Rattle.std.specs.declared.cmp.Ordering.{Ordering}
-use Rattle.std.specs.Ordering.{on, match_ordering}
-use Rattle.ap_text.specs.Order.{bytes_cmp}
+use Rattle.std.specs.Ordering.{on}
+use Rattle.ap_text.specs.Order.{bytes_cmp, put_in_order}
 use Rattle.ap_text.specs.JobOrder.{job_cmp, same_job}
 use Rattle.ap_text.specs.declared.job_id.JobId.{JobId}
 use Rattle.ap_rows.specs.declared.job.JobDesc.{JobDesc}
@@ -10,11 +10,6 @@ use Rattle.ap_rows.specs.declared.job.Created.{Created}
 use Rattle.ap_rows.specs.declared.job.Created.TheVariants.{Jobs, Builder, DuplicateKey, TooLarge}
 use Rattle.ap_rows.specs.declared.row.FolderRow.{FolderRow}
 use Rattle.ap_db.specs.Tables.{PlainSource, PlainCreate, PlainJob, PlainTables}
-
--- a rising list with a value put in its place, where it replaces the one of its rank
-abbrev pub put_in_order : {X : Type 0} → (X → X → Ordering) → X → List X → List X
-put_in_order cmp x [] = x ∷ []
-put_in_order cmp x (y ∷ ys) = match_ordering (cmp x y) (x ∷ y ∷ ys) (x ∷ ys) (y ∷ put_in_order cmp x ys)
 
 -- ---- rows by their keys
 

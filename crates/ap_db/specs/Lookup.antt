@@ -6,7 +6,7 @@ use Rattle.std.proofs.lemmas.Map.Text.{is_eq-slice_cmp}
 use Rattle.std.specs.declared.cmp.Ordering.{Ordering}
 use Rattle.std.specs.declared.cmp.Ordering.TheVariants.{Less, Equal, Greater}
 use Rattle.std.specs.Ordering.{on, is_eq, ordering_reverse, match_ordering}
-use Rattle.ap_text.specs.Order.{bytes_cmp}
+use Rattle.ap_text.specs.Order.{bytes_cmp, put_in_order}
 use Rattle.ap_text.specs.JobOrder.{job_cmp, job_total, same_job}
 use Rattle.ap_text.specs.declared.job_id.JobId.{JobId}
 use Rattle.ap_content.specs.Things.{Thing}
@@ -14,7 +14,7 @@ use Rattle.ap_content.specs.declared.node.Number.{Number}
 use Rattle.ap_rows.specs.declared.change.Item.{Item}
 use Rattle.ap_rows.specs.declared.change.Item.TheVariants.{PutSource, RemoveSource, PutCreate, RemoveCreate, PutJob, RemoveJob, PutFolders}
 use Rattle.ap_db.specs.Tables.{PlainSource, PlainCreate, PlainJob, PlainTables}
-use Rattle.ap_db.specs.Changes.{put_in_order, source_row_at, create_row_at, job_row_at}
+use Rattle.ap_db.specs.Changes.{source_row_at, create_row_at, job_row_at}
 use Rattle.ap_db.specs.Commit.{PlainItem, puts_folders, puts_source, removes_source, puts_create, removes_create, puts_job, removes_job}
 use Rattle.ap_db.specs.Lawful.{after_plain}
 use Rattle.ap_db.specs.Listed.{AreAll}

@@ -6,7 +6,7 @@ use Rattle.std.specs.Cmp.{IsTotalOrder}
 use Rattle.std.specs.declared.cmp.Ordering.{Ordering}
 use Rattle.std.specs.declared.cmp.Ordering.TheVariants.{Less, Equal, Greater}
 use Rattle.std.specs.Ordering.{on, ordering_reverse, match_ordering}
-use Rattle.ap_db.specs.Changes.{put_in_order}
+use Rattle.ap_text.specs.Order.{put_in_order}
 use Rattle.ap_db.specs.Members.{Has}
 
 -- what is in a list after a put was put or was there

@@ -8,14 +8,14 @@ use Rattle.std.proofs.lemmas.Map.Text.{is_eq-slice_cmp}
 use Rattle.std.specs.declared.cmp.Ordering.{Ordering}
 use Rattle.std.specs.declared.cmp.Ordering.TheVariants.{Less, Equal, Greater}
 use Rattle.std.specs.Ordering.{on, is_eq, ordering_reverse, match_ordering}
-use Rattle.ap_text.specs.Order.{bytes_cmp}
+use Rattle.ap_text.specs.Order.{bytes_cmp, put_in_order}
 use Rattle.ap_text.specs.JobOrder.{job_cmp, job_total, same_job}
 use Rattle.ap_text.specs.declared.job_id.JobId.{JobId}
 use Rattle.ap_rows.specs.declared.row.SourceRow.{SourceRow}
 use Rattle.ap_rows.specs.declared.row.CreateRow.{CreateRow}
 use Rattle.ap_rows.specs.declared.row.JobRow.{JobRow}
 use Rattle.ap_db.specs.Tables.{PlainSource, PlainCreate, PlainJob, PlainTables}
-use Rattle.ap_db.specs.Changes.{put_in_order, source_cmp, create_cmp, job_row_cmp, with_source, without_source, with_create, without_create, with_job, without_job, source_row_at, create_row_at, job_row_at}
+use Rattle.ap_db.specs.Changes.{source_cmp, create_cmp, job_row_cmp, with_source, without_source, with_create, without_create, with_job, without_job, source_row_at, create_row_at, job_row_at}
 use Rattle.ap_db.specs.Listed.{replaced}
 use Rattle.ap_db.specs.Rows.{by_path, by_source, by_id, SourcesRise, CreatesRise, JobsRise}
 use Rattle.ap_db.specs.States.{TablesRise}

@@ -1,4 +1,4 @@
-ghost use Rattle.std.specs.Prelude.{◌≡◌, ◌≢◌, ◌≤◌, ◌<◌, ◌⊎◌, ◌^◌, ℕ, List, Option, Ok, find, length, true, false, option_copied, IfOk, OnOk, OnErr, IfErr, IsErrOf, IfSome};
+ghost use Rattle.std.specs.Prelude.{◌≡◌, ◌≢◌, ◌≤◌, ◌<◌, ◌⊎◌, ◌^◌, ℕ, List, Option, Ok, find, bytes_eq, length, true, false, option_copied, IfOk, OnOk, OnErr, IfErr, IsErrOf, IfSome};
 ghost use Rattle.ap_text.specs.Causes.{Rose};
 ghost use Rattle.ap_text.specs.JobOrder.{same_job};
 ghost use Rattle.ap_disk.specs.Calls.{TellsAs};
@@ -7,7 +7,7 @@ ghost use Rattle.ap_journal.specs.Records.{IsSameStore};
 ghost use Rattle.ap_journal.specs.Moments.{Opens, Steps};
 ghost use Rattle.ap_db.specs.declared.fault.DbFault.TheVariants.{OutOfMemory, DiskFault, BadStore};
 ghost use Rattle.ap_db.specs.Stored.{Stored, stored_in};
-ghost use Rattle.ap_db.specs.Rows.{JobsRise};
+ghost use Rattle.ap_db.specs.Rows.{CreatesRise, JobsRise};
 ghost use Rattle.ap_db.specs.Opened.{IsBadStore};
 ghost use Rattle.ap_content.specs.Things.{Thing};
 ghost use Rattle.ap_content.specs.Entries.{Stands, holds_at};
@@ -27,13 +27,13 @@ use crate::loose::unnamed;
 use crate::opening::open_records;
 use crate::reading::Reading;
 use crate::recording::append_change;
-use crate::rows::place_of_job;
+use crate::rows::{place_of_create, place_of_job};
 use crate::state::State;
 use ap_content::{Contents, Number};
 use ap_disk::{Disk, Pair};
 use ap_journal::Journal;
-use ap_rows::{Change, JobRow, Tables};
-use ap_text::JobId;
+use ap_rows::{Change, CreateRow, JobRow, Tables};
+use ap_text::{JobId, RelPath};
 use std::alloc::Global;
 
 /// The tables of a project and the journal that keeps them. A database holds neither its disks nor its
@@ -104,6 +104,14 @@ impl Db {
         row_of(&self.state.tables.jobs, job)
     }
 
+    /// The row of a source's creation, found by a binary search. It takes no memory.
+    pub fn creation(&self, source: &RelPath) -> Option<&CreateRow>
+        requires { IsDb self.now }
+        ensures { option_copied result ≡ find (λ row. bytes_eq row.source source.now) self.now.state.tables.creates.items }
+    {
+        creation_of(&self.state.tables.creates, source)
+    }
+
     /// Whether a commit takes this change, whose numbers are those of the contents: it has no `Define` and no
     /// `Drop`, each number that it names is live and of the right tag, each thing at or below it that the file
     /// lacks has the form of its tag, removed rows are there when their turn comes, paths are folded and the orders
@@ -146,6 +154,7 @@ impl Db {
         ensures keeps { (m : Number) (x : Thing) → Stands contents.old m x → 0 < holds_at contents.new m → Stands contents.new m x }
         ensures steps { (is : IsDbOf D.seen D.may_leave D.room self.old contents.old store.old) (plain : List PlainItem) → IsChangeOf contents.old is.stored change.now.items plain → self.old.journal.spent ≡ false
             → Steps D.seen D.may_leave D.clock D.left_at D.room D.faults store.old store.new (λ c. IfSome (D.seen store.old.0) (λ _. IsBeforeOrAfter is.stored plain c)) }
+        ensures told { OnOk result (TellsAs (D.seen store.old.0) (D.seen store.new.0) (λ _ _. Unit {0})) }
         ensures durable { OnOk result (Only (D.seen store.new.0) (D.may_leave store.new.0)) }
         ensures limit { self.new.journal.limit ≡ self.old.journal.limit }
         ensures cause { IsErrOf result DiskFault → Rose (D.faults store.old.0) (D.faults store.new.0) }
@@ -175,6 +184,17 @@ fn row_of<'a>(rows: &'a [JobRow], job: &JobId) -> Option<&'a JobRow>
 {
     match place_of_job(rows, job) {
         Ok(at) => Some(&rows[at]),
+        Err(_) => None,
+    }
+}
+
+/// The row of a source's creation among rows that rise.
+fn creation_of<'a>(rows: &'a [CreateRow], source: &RelPath) -> Option<&'a CreateRow>
+    requires { CreatesRise rows.now }
+    ensures { option_copied result ≡ find (λ row. bytes_eq row.source source.now) rows.now }
+{
+    match place_of_create(rows, source) {
+        Ok(place) => Some(&rows[place]),
         Err(_) => None,
     }
 }

@@ -1,9 +1,9 @@
-//! Rows in the order of their keys: each is found by a binary search.
+//! Rows in the order of their keys: each is found by a binary search, behind a look at the last row, since rows mostly
+//! come in their order.
 ghost use Rattle.std.specs.Prelude.{◌≡◌, ◌≤◌, ◌+◌, List, IsSome, IfOk, OnErr, length, vec_capacity, vec_len, filter, not, find, bytes_eq};
 ghost use Rattle.std.specs.List.Sorted.{IsSearchInRange};
-ghost use Rattle.ap_text.specs.Order.{bytes_cmp};
+ghost use Rattle.ap_text.specs.Order.{bytes_cmp, put_in_order};
 ghost use Rattle.ap_text.specs.JobOrder.{job_cmp, same_job};
-ghost use Rattle.ap_db.specs.Changes.{put_in_order};
 ghost use Rattle.ap_db.specs.Listed.{IsPlaceOf, IsPutAt, IsTakenAt, replaced};
 ghost use Rattle.ap_db.specs.Rows.{by_path, by_source, by_id, SourcesRise, CreatesRise, JobsRise};
 
@@ -16,6 +16,11 @@ pub(crate) fn place_of_source(rows: &[SourceRow], path: &RelPath) -> Result<usiz
     ensures range { IsSearchInRange result (length rows.now) }
     ensures place { IsPlaceOf (λ row. bytes_cmp row.path path.now) rows.now result }
 {
+    if let [.., last] = rows
+        && last.path.cmp(path).is_lt()
+    {
+        return Err(rows.len());
+    }
     rows.binary_search_by(|row| row.path.cmp(path))
 }
 
@@ -25,6 +30,11 @@ pub(crate) fn place_of_create(rows: &[CreateRow], source: &RelPath) -> Result<us
     ensures range { IsSearchInRange result (length rows.now) }
     ensures place { IsPlaceOf (λ row. bytes_cmp row.source source.now) rows.now result }
 {
+    if let [.., last] = rows
+        && last.source.cmp(source).is_lt()
+    {
+        return Err(rows.len());
+    }
     rows.binary_search_by(|row| row.source.cmp(source))
 }
 
@@ -34,6 +44,11 @@ pub(crate) fn place_of_job(rows: &[JobRow], id: &JobId) -> Result<usize, usize>
     ensures range { IsSearchInRange result (length rows.now) }
     ensures place { IsPlaceOf (λ row. job_cmp row.id id.now) rows.now result }
 {
+    if let [.., last] = rows
+        && last.id.cmp(id).is_lt()
+    {
+        return Err(rows.len());
+    }
     rows.binary_search_by(|row| row.id.cmp(id))
 }
 

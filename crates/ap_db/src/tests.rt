@@ -1,10 +1,15 @@
-ghost use Rattle.std.specs.Prelude.{◌≡◌, ◌≤◌, ◌^◌, IfOk};
+ghost use Rattle.std.specs.Prelude.{◌≡◌, ◌≤◌, ◌^◌, true, Contains, IfOk};
+ghost use Rattle.ap_content.specs.Entries.{Lives};
+ghost use Rattle.ap_content.specs.declared.node.Number.{Number};
 
-mod commits;
+mod changes;
 mod opening;
+mod project;
+mod refusals;
+mod stops;
 
 use crate::{Db, DbFault};
-use ap_content::{Contents, Number};
+use ap_content::{Contents, Node, Number};
 use ap_disk::{Disk, Pair, SureMemoryDisk};
 use ap_rows::{Change, put_run};
 use std::alloc::Global;
@@ -37,6 +42,24 @@ fn pair(rt: &impl Abort, alloc: Global, bytes: &[u8]) -> Result<Pair<SureMemoryD
     Ok(Pair::new(a, b))
 }
 
+/// Appends a record of this payload.
+fn push_record(rt: &impl Abort, file: &mut Vec<u8>, payload: &[u8]) -> Result<(), Fail> {
+    assert!(rt; payload.len() < 4294967296);
+    file.push(1)?;
+    put_run(file, 4, payload)?;
+    Ok(())
+}
+
+/// The file with these payloads.
+fn file_of(rt: &impl Abort, alloc: Global, payloads: &[&[u8]]) -> Result<Vec<u8>, Fail> {
+    let mut file = b"APSTORE1\0\0\0\0\0\0\0\x01".to_vec(alloc)?;
+    for payload in payloads {
+        push_record(rt, &mut file, payload)?;
+    }
+    file.push(0)?;
+    Ok(file)
+}
+
 /// The file with one payload more.
 fn file_behind(
     rt: &impl Abort,
@@ -46,9 +69,7 @@ fn file_behind(
 ) -> Result<Vec<u8>, Fail> {
     let mut file = before.to_vec(alloc)?;
     assert!(rt; file.pop().is_some());
-    assert!(rt; payload.len() < 4294967296);
-    file.push(1)?;
-    put_run(&mut file, 4, payload)?;
+    push_record(rt, &mut file, payload)?;
     file.push(0)?;
     Ok(file)
 }
@@ -100,6 +121,20 @@ fn database_of(
     Ok(open(alloc, store, ROOM as u64)?)
 }
 
+/// Whether each of these numbers lives.
+fn all_live(contents: &Contents, numbers: &[Number]) -> bool
+    ensures { result ≡ true → (k : Number) → Contains numbers.now k → Lives contents.now k }
+{
+    let mut rest = numbers;
+    while let [n, after @ ..] = rest {
+        if contents.get(*n).is_none() {
+            return false;
+        }
+        rest = after;
+    }
+    true
+}
+
 impl<D: Disk> Opened<D> {
     /// Commits a change that is found to be lawful.
     fn commit(&mut self, rt: &impl Abort, change: &Change) -> Result<Result<(), DbFault>, Fail> {
@@ -107,9 +142,21 @@ impl<D: Disk> Opened<D> {
         Ok(self.db.commit(&mut self.store, &mut self.contents, change))
     }
 
-    /// The thing of these bytes.
-    fn bytes(&mut self, bytes: &[u8]) -> Result<Number, Fail> {
-        Ok(self.contents.intern(bytes)?)
+    /// The thing of this node, whose kids are found to live.
+    fn node(&mut self, rt: &impl Abort, node: &Node) -> Result<Number, Fail> {
+        assert!(rt; all_live(&self.contents, node.kids.as_slice()));
+        Ok(self.contents.intern_node(node)?)
+    }
+
+    /// How many numbers of the contents live.
+    fn living(&self) -> usize {
+        let mut living = 0usize;
+        for n in 0..64u64 {
+            if self.contents.get(Number(n)).is_some() {
+                living = living.saturating_add(1);
+            }
+        }
+        living
     }
 
     /// How many rows of each table there are.

@@ -1,7 +1,8 @@
 //! Openings of stores, good ones and bad ones, and what their tables have.
-use super::{FILE, ROOM, database_of, open, pair};
+use super::project::front;
+use super::{FILE, ROOM, database_of, open, pair, push_record};
 use crate::DbFault;
-use ap_rows::{JobResult, put_run};
+use ap_rows::{Created, JobResult};
 use ap_text::{JobId, Name, Platform, RelPath};
 use std::alloc::Global;
 use std::process::Abort;
@@ -191,9 +192,7 @@ fn file_with(rt: &impl Abort, alloc: Global, records: &[&[&[u8]]]) -> Result<Vec
         for item in items.iter() {
             payload.extend_from_slice(item)?;
         }
-        assert!(rt; payload.len() < 4294967296);
-        file.push(1)?;
-        put_run(&mut file, 4, &payload)?;
+        push_record(rt, &mut file, &payload)?;
     }
     file.push(0)?;
     Ok(file)
@@ -229,11 +228,11 @@ fn tables_of_a_store(rt: HostRuntime) -> Result<(), Fail> {
 /// A store with the row of one job, which depends on itself.
 const JOBS: &[u8] = b"APSTORE1\0\0\0\0\0\0\0\x01\x01\0\0\0\x11\x07\0\x05a.txt\x04copy\x02pc\x01\0";
 
-/// The job `copy` of a source, for `pc`.
-fn job_of(alloc: Global, source: &[u8]) -> Result<JobId, Fail> {
+/// The id of a job of `a.txt` with this key.
+fn job_of(alloc: Global, key: &[u8]) -> Result<JobId, Fail> {
     Ok(JobId {
-        source: RelPath::read(alloc, source)?,
-        key: Name::read(alloc, b"copy")?,
+        source: RelPath::read(alloc, b"a.txt")?,
+        key: Name::read(alloc, key)?,
         platform: Platform::read(alloc, b"pc")?,
     })
 }
@@ -242,15 +241,28 @@ fn job_of(alloc: Global, source: &[u8]) -> Result<JobId, Fail> {
 fn a_row_is_found(rt: HostRuntime) -> Result<(), Fail> {
     let alloc = rt.alloc();
     let opened = database_of(&rt, alloc, JOBS)?;
-    let job = job_of(alloc, b"a.txt")?;
-    let other = JobId {
-        key: Name::read(alloc, b"copz")?,
-        ..job.copy(alloc)?
-    };
-    assert!(rt; opened.db.row(&other).is_none());
-    match opened.db.row(&job) {
+    assert!(rt; opened.db.row(&job_of(alloc, b"copz")?).is_none());
+    match opened.db.row(&job_of(alloc, b"copy")?) {
         Some(row) => assert!(rt; matches!(&row.result, JobResult::Cycle)),
-        None => assert!(rt; false),
+        None => panic!(rt; "no row"),
+    }
+    Ok(())
+}
+
+#[test]
+fn a_creation_is_found(rt: HostRuntime) -> Result<(), Fail> {
+    let alloc = rt.alloc();
+    let before = front(&rt, alloc, 3)?;
+    let opened = database_of(&rt, alloc, &before)?;
+    assert!(rt;
+        opened
+            .db
+            .creation(&RelPath::read(alloc, b"b.txt")?)
+            .is_none()
+    );
+    match opened.db.creation(&RelPath::read(alloc, b"a.txt")?) {
+        Some(row) => assert!(rt; matches!(&row.created, Created::Jobs(_))),
+        None => panic!(rt; "no row"),
     }
     Ok(())
 }

@@ -1,5 +1,6 @@
-use Rattle.std.proofs.Common.{◌≡◌, ◌∙◌, true, false, List, Ok, Err, ⊎_elim, refl, sym, ap, subst, arith, length}
+use Rattle.std.proofs.Common.{◌≡◌, ◌∙◌, ◌++◌, [], ◌∷◌, true, false, List, Ok, Err, ⊎_elim, refl, sym, ap, subst, arith, length}
 use Rattle.std.specs.Prelude.{IfSome}
+use Rattle.ap_journal.specs.Records.{standing}
 use Rattle.ap_journal.specs.State.{State as JournalState, IsOf}
 use Rattle.ap_rows.specs.declared.change.Item.{Item}
 use Rattle.ap_rows.specs.Spelling.{spelled}
@@ -9,7 +10,7 @@ use Rattle.ap_db.specs.Faults.{commit_refusal, IsRefusedFor}
 use Rattle.ap_db.specs.Stored.{stored_in}
 use Rattle.ap_db.specs.TakenOut.{AreCandidates}
 use Rattle.ap_db.proofs.Planning.{err_any}
-use Rattle.ap_db.proofs.Committing.{with_room, wasnt_spent, steps_through, file_after, beside_none, held_alone, nothing_loose, to_commit, settled_by, Remains, remains, disk_or_not}
+use Rattle.ap_db.proofs.Committing.{told_on, with_room, wasnt_spent, steps_through, file_after, beside_none, held_alone, nothing_loose, to_commit, settled_by, Remains, remains, disk_or_not}
 use Rattle.ap_db.proofs.db.Db.commit.Goals as goal
 
 pub returns-in_err-reserve-clause-unchanged : goal.returns-in_err-reserve-clause-unchanged
@@ -80,6 +81,11 @@ returns-in-Ok-clause-refused g c = λ is plain change.
     let planned = c.in_ok-plan.ensures.planned is.stored plain (to_commit k s.state is.stored c.as_slice-items.result.now c.args.change.now.items plain c.as_slice-items.ensures is.well is.stands change) (subst (AreCandidates k is.stored) (sym c.deref.ensures.value) is.loose) in
     subst (λ (l : List Item). IsRefusedFor {T = Unit {0}} (commit_refusal s.journal (length (spelled l))) (Ok tt)) planned.written
     (subst (λ (j : JournalState). IsRefusedFor {T = Unit {0}} (commit_refusal j (length (spelled c.in_ok-plan.plan.written.items))) (Ok tt)) c.in_ok-reserve.ensures.kept c.in-Ok.ensures.refused)
+
+pub returns-in-Ok-clause-told : goal.returns-in-Ok-clause-told
+returns-in-Ok-clause-told g c =
+    let d = g.D.Disk in
+    told_on (d.seen c.args.store.now.0) (d.seen c.append_change.new.store.0) (λ old new. standing new ≡ standing old ++ spelled c.in_ok-plan.plan.written.items ∷ []) c.in-Ok.ensures.records
 
 pub returns-in-Ok-clause-holds : goal.returns-in-Ok-clause-holds
 returns-in-Ok-clause-holds g c = λ others bounded held.
