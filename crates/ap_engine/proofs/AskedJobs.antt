@@ -1,0 +1,135 @@
+-- What the answers of a source's builders come to, and when that is one job that depends on nothing.
+use Rattle.std.proofs.Common.{◌≡◌, ℕ, Bool, true, false, cond, List, [], ◌∷◌, ◌++◌, map, Option, Some, None, Bor, refl, sym, ◌∙◌, ap, subst}
+use Rattle.std.specs.List.{AllByRecursion, filter, flat_map, list_any}
+use Rattle.ap_config.specs.declared.config.Config.{Config}
+use Rattle.ap_config.specs.declared.offer.Offer.{Offer}
+use Rattle.ap_rows.specs.declared.job.DependencyRow.{DependencyRow}
+use Rattle.ap_rows.specs.declared.job.JobDesc.{JobDesc}
+use Rattle.ap_rows.specs.declared.job.Created.{Created}
+use Rattle.ap_rows.specs.declared.job.Created.TheVariants.{Jobs as CreatedJobs, Builder, DuplicateKey}
+use Rattle.ap_builder.specs.declared.work.CreateInput.{CreateInput}
+use Rattle.ap_builder.specs.declared.work.CreateAnswer.{CreateAnswer}
+use Rattle.ap_builder.specs.declared.work.CreateAnswer.TheVariants.{Jobs, Failed}
+use Rattle.ap_builder.specs.Meanings.{Meanings}
+use Rattle.ap_builder.specs.Views.{create_view}
+use Rattle.ap_sources.specs.Sources.{matching}
+use Rattle.ap_create.specs.Creation.{created, failed_by, first_failure, same_slot, first_duplicate, jobs_answered, unless_refused}
+use Rattle.ap_engine.specs.Worlds.{IsOneFreeJob}
+use Rattle.ap_engine.specs.Asked.{versions_of, plain_from, answers_of, joined, all_joined, if_free, only_free_job}
+
+-- what a builder sees, field by field
+pub view_is : (config : Config) (path bytes : List ℕ) (view : CreateInput) → view.builders ≡ versions_of (matching config path) → view.platforms ≡ config.platforms → view.path ≡ path → view.bytes ≡ bytes → view.reached ≡ []
+    → view ≡ create_view (plain_from config path bytes) bytes
+view_is config path bytes view builders platforms path_is bytes_are reached = λ i. record { builders = builders i; platforms = platforms i; path = path_is i; bytes = bytes_are i; reached = reached i }
+
+-- ---- which builders are asked
+
+pub all_filtered : {X : Type 0} (P : X → Type 0) (test : X → Bool) (xs : List X) → AllByRecursion P xs → AllByRecursion P (filter test xs)
+all_filtered P test [] all = tt
+all_filtered {X = X} P test (x ∷ xs) all = by_case (test x) (all_filtered P test xs all.1)
+  where
+    by_case : (b : Bool) → AllByRecursion P (filter test xs) → AllByRecursion P (cond b (x ∷ filter test xs) (filter test xs))
+    by_case true more = (all.0, more)
+    by_case false more = more
+
+pub all_behind : (P : Offer → Type 0) (offers : List (Bor Offer)) → AllByRecursion P (map (λ offer. offer.now) offers) → AllByRecursion (λ offer. P offer.now) offers
+all_behind P [] all = tt
+all_behind P (offer ∷ offers) all = (all.0, all_behind P offers all.1)
+
+-- ---- the answers joined
+
+abbrev IsNoJobs : Created → Type 0
+IsNoJobs came = (jobs : List JobDesc) → came ≡ CreatedJobs jobs → ⊥
+
+abbrev IsFailure : Option Created → Type 0
+IsFailure failure = (came : Created) × (failure ≡ Some came) × IsNoJobs came
+
+-- the answers' failure and their jobs agree with the answers joined
+record Agree (failure : Option Created) (jobs : List JobDesc) (all : Option (List JobDesc)) : Type 0 where
+  pub fails : all ≡ None → IsFailure failure
+  pub gives : (given : List JobDesc) → all ≡ Some given → (failure ≡ None) × (jobs ≡ given)
+
+one_more : (name : List ℕ) (answer : CreateAnswer) (failure : Option Created) (jobs : List JobDesc) (all : Option (List JobDesc)) → Agree failure jobs all
+    → Agree (failed_by name answer failure) (jobs_answered answer ++ jobs) (joined answer all)
+one_more name (Jobs more) failure jobs None agree = record { fails = λ e. agree.fails refl; gives = λ given e. absurd (cc e) }
+one_more name (Jobs more) failure jobs (Some all) agree = record {
+  fails = λ e. absurd (cc e);
+  gives = λ given e. let here = agree.gives all refl in let is : more ++ all ≡ given = cc e in (here.0, ap (λ l. more ++ l) here.1 ∙ is);
+}
+one_more name (Failed code) failure jobs all agree = record {
+  fails = λ e. (Builder name code, refl, λ jobs is. cc is);
+  gives = λ given e. absurd (cc e);
+}
+
+module _ (builders : Meanings) (view : CreateInput) where
+  abbrev answers_by : List Offer → List (List ℕ × CreateAnswer)
+  answers_by offers = map (λ builder. (builder.0, builders.creates builder.0 view)) (versions_of offers)
+
+  agree : (offers : List Offer) → Agree (first_failure (answers_by offers)) (flat_map (λ answer. jobs_answered answer.1) (answers_by offers)) (all_joined (answers_of builders.creates view offers))
+  agree [] = record { fails = λ e. absurd (cc e); gives = λ given e. let is : [] ≡ given = cc e in (refl, is) }
+  agree (offer ∷ offers) = one_more offer.name (builders.creates offer.name view) (first_failure (answers_by offers)) (flat_map (λ answer. jobs_answered answer.1) (answers_by offers))
+      (all_joined (answers_of builders.creates view offers)) (agree offers)
+
+pub joined_as : (creates : List ℕ → CreateInput → CreateAnswer) (view seen : CreateInput) (offers asked : List Offer) (came : Option (List JobDesc)) → view ≡ seen → offers ≡ asked
+    → all_joined (answers_of creates view offers) ≡ came → all_joined (answers_of creates seen asked) ≡ came
+joined_as creates view seen offers asked came v o e = sym (λ i. all_joined (answers_of creates (v i) (o i))) ∙ e
+
+-- ---- one free job
+
+free_where : (job one : JobDesc) (deps : List DependencyRow) → if_free job deps ≡ Some one → (job ≡ one) × (deps ≡ [])
+free_where job one [] e = let is : job ≡ one = cc e in (is, refl)
+free_where job one (dep ∷ deps) e = absurd (cc e)
+
+one_where : (jobs : List JobDesc) (one : JobDesc) → only_free_job jobs ≡ Some one → (jobs ≡ one ∷ []) × (one.deps ≡ [])
+one_where [] one e = absurd (cc e)
+one_where (job ∷ []) one e =
+    let free = free_where job one job.deps e in
+    (ap (λ job. job ∷ []) free.0, ap (λ (job : JobDesc). job.deps) (sym free.0) ∙ free.1)
+one_where (job ∷ more ∷ jobs) one e = absurd (cc e)
+
+no_duplicate_jobs : (earlier jobs : List JobDesc) (came : Created) → first_duplicate earlier jobs ≡ Some came → IsNoJobs came
+no_duplicate_jobs earlier [] came e = absurd (cc e)
+no_duplicate_jobs earlier (job ∷ jobs) came e = by_case (list_any (same_slot job) earlier) e (no_duplicate_jobs (job ∷ earlier) jobs came)
+  where
+    by_case : (b : Bool) → cond b (Some (DuplicateKey job.key job.platform)) (first_duplicate (job ∷ earlier) jobs) ≡ Some came → (first_duplicate (job ∷ earlier) jobs ≡ Some came → IsNoJobs came) → IsNoJobs came
+    by_case true is more = λ jobs e. let same : DuplicateKey job.key job.platform ≡ came = cc is in cc (same, e)
+    by_case false is more = more is
+
+none_free : (jobs : List JobDesc) → only_free_job jobs ≡ None → ¬ IsOneFreeJob (unless_refused None (first_duplicate [] jobs) jobs)
+none_free [] e one = let is : CreatedJobs [] ≡ CreatedJobs (one.job ∷ []) = one.one in cc is
+none_free (job ∷ []) e one =
+    let is : CreatedJobs (job ∷ []) ≡ CreatedJobs (one.job ∷ []) = one.one in
+    let same : job ≡ one.job = cc is in
+    let free : job.deps ≡ [] = ap (λ (job : JobDesc). job.deps) same ∙ one.free in
+    let none : Some job ≡ None = ap (if_free job) (sym free) ∙ e in
+    cc none
+none_free (job ∷ more ∷ jobs) e one = by_case (first_duplicate [] (job ∷ more ∷ jobs)) refl one.one
+  where
+    by_case : (d : Option Created) → first_duplicate [] (job ∷ more ∷ jobs) ≡ d → unless_refused None d (job ∷ more ∷ jobs) ≡ CreatedJobs (one.job ∷ []) → ⊥
+    by_case None f is = cc is
+    by_case (Some came) f is = no_duplicate_jobs [] (job ∷ more ∷ jobs) came f (one.job ∷ []) is
+
+module _ (builders : Meanings) (config : Config) (path bytes : List ℕ) where
+  abbrev joined_here : Option (List JobDesc)
+  joined_here = all_joined (answers_of builders.creates (create_view (plain_from config path bytes) bytes) (matching config path))
+
+  came_to : (jobs : List JobDesc) → joined_here ≡ Some jobs → created builders (plain_from config path bytes) ≡ unless_refused None (first_duplicate [] jobs) jobs
+  came_to jobs e =
+      let given = (agree builders (create_view (plain_from config path bytes) bytes) (matching config path)).gives jobs e in
+      λ i. unless_refused (given.0 i) (first_duplicate [] (given.1 i)) (given.1 i)
+
+  pub one_created : (jobs : List JobDesc) (job : JobDesc) → joined_here ≡ Some jobs → only_free_job jobs ≡ Some job
+      → (created builders (plain_from config path bytes) ≡ CreatedJobs (job ∷ [])) × (job.deps ≡ [])
+  one_created jobs job e only =
+      let one = one_where jobs job only in
+      (came_to jobs e ∙ ap (λ jobs. unless_refused None (first_duplicate [] jobs) jobs) one.0, one.1)
+
+  pub none_created : joined_here ≡ None → ¬ IsOneFreeJob (created builders (plain_from config path bytes))
+  none_created e one =
+      let came = (agree builders (create_view (plain_from config path bytes) bytes) (matching config path)).fails e in
+      let jobs = flat_map (λ answer. jobs_answered answer.1) (answers_by builders (create_view (plain_from config path bytes) bytes) (matching config path)) in
+      let is : created builders (plain_from config path bytes) ≡ came.0 = ap (λ failure. unless_refused failure (first_duplicate [] jobs) jobs) came.1 in
+      came.2 (one.job ∷ []) (sym is ∙ one.one)
+
+  pub others_created : (jobs : List JobDesc) → joined_here ≡ Some jobs → only_free_job jobs ≡ None → ¬ IsOneFreeJob (created builders (plain_from config path bytes))
+  others_created jobs e only one = none_free jobs only (subst IsOneFreeJob (came_to jobs e) one)

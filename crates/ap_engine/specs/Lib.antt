@@ -1,0 +1,17 @@
+pub mod Verdict
+pub mod Settled
+pub mod Need
+pub mod Sound
+pub mod Stops
+pub mod Rows
+pub mod Changes
+pub mod Worlds
+pub mod Ledgers
+pub mod Goods
+pub mod Interned
+pub mod Removals
+pub mod Folders
+pub mod Asked
+pub mod Recorded
+pub mod NeededJobs
+pub mod SourceSteps

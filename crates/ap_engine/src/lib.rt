@@ -1,0 +1,13 @@
+//! What the jobs of a project come to, and the tables that it settles to.
+#![tactic(auto)]
+
+mod copying;
+mod creations;
+mod fault;
+mod folders;
+mod interning;
+mod jobs_of;
+mod ledger;
+mod processing;
+mod source;
+mod source_rows;
