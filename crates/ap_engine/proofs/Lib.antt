@@ -50,3 +50,5 @@ pub mod MergedPaths
 pub mod StepsPlanned
 pub mod StepsThere
 pub mod InternedSources
+pub mod FrontPhases
+pub mod SettlePhases

@@ -35,3 +35,7 @@ module _ {X E : Type 0} where
   pub err_map : (result : Result X E) (A Q : Type 0) → OnErr result A → (A → Q) → OnErr result Q
   err_map (Ok x) A Q a to = tt
   err_map (Err stop) A Q a to = to a
+
+  pub on_three : (result : Result X E) (A B C Q : Type 0) → OnOk result A → OnOk result B → OnOk result C → (A → B → C → Q) → OnOk result Q
+  on_three (Ok x) A B C Q a b c to = to a b c
+  on_three (Err stop) A B C Q a b c to = tt

@@ -66,6 +66,14 @@ module _ {D : Type 0} (seen : D → Option (List ℕ)) (may_leave : D → List �
     pub jobs_follow : Follow (front_changes builders config winners stored.tables) (job_changes builders config winners) (changes builders config winners stored.tables)
     jobs_follow one = phase_follows (front_changes builders config winners stored.tables) (job_changes builders config winners) (with_creations builders config winners stored.tables) (behind_creations builders config winners stored.tables) one
 
+    -- the tables behind the sources, and behind the creations
+    pub tables_behind_sources : HasCommitted seen may_leave clock left_at room faults db contents db' contents' old mid stored sources_too → (all_committed stored sources_too).tables ≡ with_source_rows builders config winners stored.tables
+    tables_behind_sources one = tables_then sources_too (create_changes builders config winners) (with_source_rows builders config winners stored.tables) (behind_sources builders config winners stored.tables) one
+
+    pub tables_behind_creations : HasCommitted seen may_leave clock left_at room faults db contents db' contents' old mid stored (front_changes builders config winners stored.tables)
+        → (all_committed stored (front_changes builders config winners stored.tables)).tables ≡ with_creations builders config winners stored.tables
+    tables_behind_creations one = tables_then (front_changes builders config winners stored.tables) (job_changes builders config winners) (with_creations builders config winners stored.tables) (behind_creations builders config winners stored.tables) one
+
     -- a phase that stops behind those that didn't
     pub sources_stop : Stop (folder_changes config winners stored.tables) (source_changes config winners) (front_changes builders config winners stored.tables)
     sources_stop one two = stopped_before seen may_leave clock left_at room faults old new stored sources_too (create_changes builders config winners (with_source_rows builders config winners stored.tables))

@@ -58,7 +58,7 @@ sound_with_folders builders tables rows sound = record {
   jobs = λ row has. let of = sound.jobs row has in record { create = of.create; there = of.there; same = of.same; among = of.among };
 }
 
-sound_with_folder_rows : (builders : Meanings) (config : Config) (winners : List Winner) (tables : PlainTables) → AreSoundTables builders tables → AreSoundTables builders (with_folder_rows builders config winners tables)
+pub sound_with_folder_rows : (builders : Meanings) (config : Config) (winners : List Winner) (tables : PlainTables) → AreSoundTables builders tables → AreSoundTables builders (with_folder_rows builders config winners tables)
 sound_with_folder_rows builders config winners tables sound = subst (AreSoundTables builders) (sym (folders_then config winners tables)) (sound_with_folders builders tables (folder_rows config) sound)
 
 module _ (builders : Meanings) (config : Config) (winners : List Winner) (quiet : AreQuiet builders config winners) (are_free : AreFree builders config winners) (typed : IsTyped builders config winners) where

@@ -357,7 +357,7 @@ fn read_paths(all: &[Source])
 }
 
 /// What the jobs of sources are created from is in its ranges.
-fn read_ranges(config: &Config, all: &[Source])
+pub(crate) fn read_ranges(config: &Config, all: &[Source])
     ensures { (source : Source) → Contains all.now source → (bytes : List ℕ) → is_folded source.path ≡ true → IsCreateInput (plain_from config.now source.path bytes) }
 {
     read_builders(config.builders.as_slice());

@@ -3,11 +3,16 @@
 
 mod copying;
 mod creations;
+mod engine;
 mod fault;
 mod folders;
+mod front;
 mod interning;
 mod jobs_of;
 mod ledger;
 mod processing;
 mod source;
 mod source_rows;
+
+pub use engine::Engine;
+pub use fault::EngineFault;
