@@ -321,9 +321,9 @@ fn needed_creations<'a>(
     Ok(needed)
 }
 
-/// A version fits four bytes.
-fn read_version(version: u32)
-    ensures { Fits32 version }
+/// Looks at a number, whose type keeps it in its range.
+pub(crate) fn look_at_number(n: u32)
+    ensures { Fits32 n }
 {}
 
 /// Reads the builders' names and versions, whose types keep their ranges. It takes no memory.
@@ -333,7 +333,7 @@ fn read_builders(offers: &[Offer])
 {
     for offer in offers {
         let _name = offer.name.as_slice();
-        read_version(offer.version);
+        look_at_number(offer.version);
     }
 }
 

@@ -30,6 +30,7 @@ ghost use Rattle.ap_engine.specs.Recorded.{AreThere, AreRecorded, open_jobs, Mak
 ghost use Rattle.ap_engine.specs.NeededJobs.{free_job_in, job_recorded, job_from, IsTypedJob, IsFoundIn, made_of, id_from, IsJobOf, row_is_of, needed_in, IsNeededJob, IsOneProduct, IsFitProduct, row_under, row_with, row_made, puts_made, work_of, IsBuilt};
 
 use crate::copying::copy_bytes;
+use crate::creations::look_at_number;
 use crate::fault::EngineFault;
 use crate::ledger::Ledger;
 use crate::source::Source;
@@ -91,13 +92,6 @@ fn job_of(alloc: Global, source: &Source, desc: &JobDesc) -> Result<SourceJob, N
         desc: desc.copy(alloc)?,
         content: source.content,
     })
-}
-
-/// Looks at a number, whose type keeps it in its range.
-fn look_at_number(n: u32)
-    ensures { Fits32 n }
-{
-    let _ = n;
 }
 
 /// Looks at bytes, which are few enough to be counted.
