@@ -1,6 +1,7 @@
 pub mod Exits
 pub mod Following
 pub mod Gains
+pub mod HeldAgain
 pub mod Formed
 pub mod AskedJobs
 pub mod Needs

@@ -55,7 +55,7 @@ fn add_source(
     let Seen::Bytes(bytes) = seen else {
         return Ok(());
     };
-    let content = ledger.intern(bytes.as_slice())?;
+    let content = ledger.intern_source(&path, bytes.as_slice())?;
     all.push(Source {
         path,
         order,

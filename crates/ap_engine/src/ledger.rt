@@ -27,7 +27,7 @@ use crate::jobs_of::{has_job, jobs_of};
 use ap_content::{Contents, Node, Number};
 use ap_db::{Db, DbFault};
 use ap_disk::{Disk, Pair};
-use ap_rows::{Change, CreateRow, Created, FolderRow, Item, JobDesc, JobRow, SourceRow};
+use ap_rows::{Change, CreateRow, Created, FolderRow, Item, JobDesc, JobRow, SeenRow, SourceRow};
 use ap_text::{List, OutOfMemory as NoMemory, RelPath};
 use std::alloc::Global;
 
@@ -78,6 +78,41 @@ impl Ledger {
         ensures db { self.new.db ≡ self.old.db }
     {
         self.contents.intern(bytes)
+    }
+
+    /// The number of the bytes of a source, with a hold on it. Where the source's row has just these bytes, they are
+    /// compared with those of the row and not digested.
+    pub(crate) fn intern_source(&mut self, path: &RelPath, bytes: &[u8]) -> Result<Number, NoMemory>
+        ensures held { IfOk result (λ n. (stored : Stored) → IsBeside self.old.db self.old.contents stored → IsHeld self.new.db self.new.contents n (bytes_thing bytes.now)) }
+        ensures beside { OnOk result ((stored : Stored) → IsBeside self.old.db self.old.contents stored → IsBeside self.new.db self.new.contents stored) }
+        ensures stay { OnOk result ((stored : Stored) → IsBeside self.old.db self.old.contents stored → StayHeld self.old.db self.old.contents self.new.db self.new.contents) }
+        ensures db { self.new.db ≡ self.old.db }
+    {
+        match self.recorded_bytes(path, bytes) {
+            Some(n) => {
+                self.contents.hold(n);
+                Ok(n)
+            }
+            None => self.intern(bytes),
+        }
+    }
+
+    /// The number that the row of a source has, where it is that of these bytes. It costs a binary search.
+    fn recorded_bytes(&self, path: &RelPath, bytes: &[u8]) -> Option<Number>
+        ensures { IfSome result (λ n. Stands self.now.contents n (bytes_thing bytes.now)) }
+    {
+        let sources = &self.db.tables().sources;
+        let place = sources
+            .binary_search_by(|row: &SourceRow| row.path.cmp(path))
+            .ok()?;
+        let SeenRow::Bytes(n) = sources.get(place)?.seen else {
+            return None;
+        };
+        let node = self.contents.get(n)?;
+        if node.tag == 0 && node.kids.as_slice().is_empty() && node.text.as_slice() == bytes {
+            return Some(n);
+        }
+        None
     }
 
     /// The number of the thing of this node, with a hold on it.

@@ -13,6 +13,8 @@ mod ledger;
 mod processing;
 mod source;
 mod source_rows;
+#[cfg(test)]
+mod tests;
 
 pub use engine::Engine;
 pub use fault::EngineFault;

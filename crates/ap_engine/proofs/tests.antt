@@ -1,0 +1,2 @@
+mod NoFiles
+mod OneFile
