@@ -1,5 +1,5 @@
 //! `ap`, the Asset Processor. It runs over the current folder, keeps its products in the folder `Cache` and
-//! what it processed in the files `ap.store.a` and `ap.store.b`, and ends with the status of its command line.
+//! its database in the files `ap.store.a` and `ap.store.b`, and ends with the status of its command line.
 #![tactic(auto)]
 
 use ap_builder::Bench;

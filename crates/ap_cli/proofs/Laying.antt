@@ -6,7 +6,7 @@ use Rattle.ap_tree.specs.Files.{content_at, has_distinct_paths}
 use Rattle.ap_tree.specs.Changes.{TellsAs, Puts}
 use Rattle.ap_cli.specs.Sources.{Files}
 use Rattle.ap_cli.specs.Overlay.{Overlays, or_else}
-use Rattle.ap_cli.proofs.TwoLists.{after, after-cons}
+use Rattle.ap_cli.proofs.FirstAndRest.{after, after-cons}
 
 none_from : (o : Option (List ℕ)) (rest : Bool) → (is_none o && rest) ≡ true → o ≡ None
 none_from None rest is = refl

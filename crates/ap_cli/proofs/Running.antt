@@ -1,113 +1,175 @@
--- A run from its parts.
-use Rattle.std.proofs.Common.{false, ◌≡◌, ◌⊎◌, inl, inr, ℕ, List, [], length, refl, sym}
-use Rattle.std.specs.Prelude.{Option, Some, None, IfSome}
-use Rattle.ap_journal.specs.Commits.{CommitsAll}
-use Rattle.ap_journal.specs.State.{State, IsOf}
-use Rattle.ap_builder.specs.declared.work.CreateInput.{CreateInput}
-use Rattle.ap_builder.specs.declared.work.CreateAnswer.{CreateAnswer}
-use Rattle.ap_builder.specs.declared.work.JobInput.{JobInput}
-use Rattle.ap_builder.specs.declared.work.Outcome.{Outcome}
-use Rattle.ap_config.specs.declared.offer.Offer.{Offer}
-use Rattle.ap_rows.specs.declared.job.JobDesc.{JobDesc}
-use Rattle.ap_cli.specs.declared.source.Source.{Source}
-use Rattle.ap_cli.specs.Recorded.{Last, needed_of, changes_of, AreFitRecords}
-use Rattle.std.proofs.lemmas.List.{append-nil}
-use Rattle.ap_builder.specs.declared.entry.Entry.{Entry}
-use Rattle.ap_builder.specs.declared.product.Product.{Product}
-use Rattle.ap_cli.specs.Run.{WorksOn, Asked, AreNext, AreFirst}
-use Rattle.ap_cli.specs.Sources.{Files, AreSources}
-use Rattle.ap_cli.specs.Store.{Gave, GaveFront}
-use Rattle.ap_cli.specs.Unbuilt.{IsUnreadable, IsRefused, IsUnbuilt, no_copy, unreadable, refused}
-use Rattle.ap_cli.specs.Work.{copy_name, version_of, jobs_of}
+-- A run from its parts: an opening, and then changes, all or the first of them.
+use Rattle.std.proofs.Common.{◌≡◌, ◌⊎◌, inl, inr, false, zero, suc, ℕ, List, [], ◌∷◌, ◌++◌, length, drop, refl, sym, ◌∙◌, ap, subst}
+use Rattle.std.specs.Prelude.{Option, Some, None, Ok, IfSome}
+use Rattle.std.proofs.lemmas.List.{drop_at}
+use Rattle.ap_disk.specs.Calls.{TellsAs}
+use Rattle.ap_journal.specs.Records.{IsSameStore}
+use Rattle.ap_journal.specs.Moments.{Opens}
 use Rattle.ap_journal.specs.Told.{one as each}
-use Rattle.ap_cli.proofs.Stopping.{opened_at}
-use Rattle.ap_cli.proofs.TrueRecords.{next_are_sound}
+use Rattle.ap_config.specs.declared.config.Config.{Config}
+use Rattle.ap_config.specs.declared.offer.Offer.{Offer}
+use Rattle.ap_scan.specs.declared.results.Winner.{Winner}
+use Rattle.ap_content.specs.Entries.{Entry as ContentEntry}
+use Rattle.ap_rows.specs.declared.row.Tables.{Tables}
+use Rattle.ap_builder.specs.Meanings.{Meanings}
+use Rattle.ap_builder.specs.declared.entry.Entry.{Entry}
+use Rattle.ap_db.specs.declared.db.Db.{Db}
+use Rattle.ap_db.specs.Changes.{Whole}
+use Rattle.ap_db.specs.States.{Names, TablesAre}
+use Rattle.ap_db.specs.Stored.{Stored, stored_in}
+use Rattle.ap_db.specs.Tables.{PlainTables}
+use Rattle.ap_db.specs.WholeItems.{all_committed}
+use Rattle.ap_engine.specs.Changes.{front_changes, changes, job_changes, with_creations}
+use Rattle.ap_engine.specs.Ledgers.{Commits, HasStopped, RunsOn, LeavesOnly}
+use Rattle.ap_engine.specs.Need.{need}
+use Rattle.ap_engine.specs.Settled.{settled}
+use Rattle.ap_engine.specs.Sound.{IsSound, IsSoundStored}
+use Rattle.ap_engine.specs.Stops.{IsFrontOf}
+use Rattle.ap_engine.proofs.Following.{stopped_before}
+use Rattle.ap_engine.proofs.ImagesSound.{EachFrontIsSound, runs_leave_sound}
+use Rattle.ap_engine.proofs.Openings.{runs_on, opens_alone}
+use Rattle.ap_engine.proofs.Runs.{all_are_front, told_soundly, opening_leaves_sound, opened_run_stays_sound, opened_stop_stays_sound, opened_early_stop_stays_sound, run_settles, reads_settled, crash_leaves_settled}
+use Rattle.ap_cli.specs.declared.report.Counts.{Counts}
+use Rattle.ap_cli.specs.Layout.{AreApart, files_of, have_one_product}
+use Rattle.ap_cli.specs.Project.{IsProject}
+use Rattle.ap_cli.specs.Run.{counts_of, AreFirst, Ran, Stopped}
+use Rattle.ap_cli.specs.Sources.{Files}
+use Rattle.ap_cli.specs.Unbuilt.{IsUnbuilt}
+use Rattle.ap_cli.specs.Working.{AreRowsOf, IsFound, Settled, Halted, at_once, early, late, Delivered}
+use Rattle.ap_cli.proofs.Building.{is_built, undelivered}
 
-module _ {D : Type 0} (seen : D → Option (List ℕ)) (may_leave : D → List ℕ → Type 0) (clock : D → Option ℕ) (left_at : D → ℕ → List ℕ → Type 0) (room faults : D → ℕ) where
-  -- nothing was given
-  pub gave_nothing : (journal : State) (store : D × D) (P : List (List ℕ) → Type 0) → IsOf seen may_leave room journal store → journal.spent ≡ false →
-      Gave seen may_leave clock left_at room faults store store (λ given. (given ≡ []) ⊎ P given)
-  gave_nothing journal store P is fresh = record {
+pub where_told : {X : Type 0} (told : Option X) (P : X → Type 0) → ((x : X) → told ≡ Some x → P x) → IfSome told P
+where_told None P p = tt
+where_told (Some x) P p = p x refl
+
+none_in_front : (given rest : List Whole) → given ++ rest ≡ [] → given ≡ []
+none_in_front [] rest is = refl
+none_in_front (change ∷ given) rest is = absurd (cc is)
+
+module _ {D : Type 0} (seen : D → Option (List ℕ)) (may_leave : D → List ℕ → Type 0) (clock : D → Option ℕ) (left_at : D → ℕ → List ℕ → Type 0) (room faults : D → ℕ)
+    (builders : Meanings) (offers : List Offer) (folder : List ℕ) (tree : Option Files) (old mid : D × D) (file : List ℕ) (tells : seen old.0 ≡ Some file) (sound : IsSound builders file)
+    (opens : Opens seen may_leave clock left_at room faults old mid (may_leave old.0) (λ c. IfSome (seen old.0) (λ f. IsSameStore f c))) where
+  stands_when : (stored : Stored) → stored_in file ≡ Ok stored → IfSome (seen old.0) (λ f. stored_in f ≡ Ok stored)
+  stands_when stored is = subst (λ (o : Option (List ℕ)). IfSome o (λ f. stored_in f ≡ Ok stored)) (sym tells) is
+
+  -- an opening alone
+  pub opened_alone : Stopped seen may_leave clock left_at room faults old mid builders offers folder tree file
+  opened_alone = record {
+    stored = sound.stored;
+    lawful = sound.lawful;
     given = [];
     answered = 0;
-    commits = (opened_at seen may_leave clock left_at room faults journal store is fresh).commits;
+    runs = opens_alone seen may_leave clock left_at room faults old mid sound.stored opens (stands_when sound.stored sound.lawful);
     first = inl refl;
   }
 
-  -- the first records of these sources
-  pub gave_next : (creates : List ℕ → CreateInput → CreateAnswer) (makes : JobInput → Outcome) (version : ℕ) (needed : List Source) (jobs : List JobDesc) (old new : D × D) →
-      jobs_of creates version needed ≡ Some jobs → GaveFront seen may_leave clock left_at room faults old new (changes_of makes version needed jobs) (λ given. AreFitRecords makes version given needed jobs) →
-      Gave seen may_leave clock left_at room faults old new (λ given. (given ≡ []) ⊎ AreNext creates makes version needed given)
-  gave_next creates makes version needed jobs old new created gave = record {
-    given = gave.some.given;
-    answered = gave.some.answered;
-    commits = gave.some.commits;
-    first = inr (record { jobs = jobs; created = created; rest = gave.some.rest; front = gave.some.front; fit = gave.fit });
-  }
+  pub opened_soundly : LeavesOnly seen may_leave clock left_at room faults old mid (IsSound builders)
+  opened_soundly = opening_leaves_sound seen may_leave clock left_at room faults builders old file tells mid sound opens
 
-  -- they are the first records of a run
-  pub gave_first : (creates : List ℕ → CreateInput → CreateAnswer) (makes : JobInput → Outcome) (offers : List Offer) (folder : List ℕ) (last : Last) (tree : Option Files) (version : ℕ) (sources : List Source) (old new : D × D) →
-      version_of offers copy_name ≡ Some version → IfSome tree (λ files. AreSources folder files sources) →
-      Gave seen may_leave clock left_at room faults old new (λ given. (given ≡ []) ⊎ AreNext creates makes version (needed_of version last sources) given) →
-      Gave seen may_leave clock left_at room faults old new (λ given. (given ≡ []) ⊎ IfSome tree (AreFirst creates makes offers folder given last))
-  gave_first creates makes offers folder last tree version sources old new offered found gave = record {
-    given = gave.given;
-    answered = gave.answered;
-    commits = gave.commits;
-    first = widened gave.first;
-  }
-    where
-      widened : {given : List (List ℕ)} → (given ≡ []) ⊎ AreNext creates makes version (needed_of version last sources) given → (given ≡ []) ⊎ IfSome tree (AreFirst creates makes offers folder given last)
-      widened (inl none_given) = inl none_given
-      widened {given} (inr next) = inr (each tree (λ files. AreSources folder files sources) (AreFirst creates makes offers folder given last) found
-          (λ files are. record {
-            version = version;
-            sources = sources;
-            on = record { offered = offered; found = are };
-            next = next;
-            sound = next_are_sound creates makes version last sources folder files given are next;
-          }))
+  -- and what follows on it
+  module _ (stored : Stored) (stands : IfSome (seen old.0) (λ f. stored_in f ≡ Ok stored)) (telling : TellsAs (seen old.0) (seen mid.0) (λ _ _. Unit {0})) (new : D × D) where
+    is_stored : stored_in file ≡ Ok stored
+    is_stored = subst (λ (o : Option (List ℕ)). IfSome o (λ f. stored_in f ≡ Ok stored)) tells stands
 
-  -- all of them
-  pub gave_all : (creates : List ℕ → CreateInput → CreateAnswer) (makes : JobInput → Outcome) (offers : List Offer) (folder : List ℕ) (last : Last) (tree : Option Files) (version : ℕ) (sources : List Source) (made : List Product) (bench bench' : List Entry) (old new : D × D) →
-      IfSome tree (λ files. WorksOn offers folder files version sources) →
-      Asked creates makes version (needed_of version last sources) made bench bench' (CommitsAll seen may_leave clock left_at room faults old new) →
-      Gave seen may_leave clock left_at room faults old new (λ given. (given ≡ []) ⊎ IfSome tree (AreFirst creates makes offers folder given last))
-  gave_all creates makes offers folder last tree version sources made bench bench' old new on asked = record {
-    given = changes_of makes version (needed_of version last sources) asked.jobs;
-    answered = length (changes_of makes version (needed_of version last sources) asked.jobs);
-    commits = asked.kept.commits;
-    first = inr (each tree (λ files. WorksOn offers folder files version sources) (AreFirst creates makes offers folder (changes_of makes version (needed_of version last sources) asked.jobs) last) on
-        (λ files works. record {
-          version = version;
-          sources = sources;
-          on = works;
-          next = all_next;
-          sound = next_are_sound creates makes version last sources folder files (changes_of makes version (needed_of version last sources) asked.jobs) works.found all_next;
-        }));
-  }
-    where
-      all_next : AreNext creates makes version (needed_of version last sources) (changes_of makes version (needed_of version last sources) asked.jobs)
-      all_next = record {
-        jobs = asked.jobs;
-        created = asked.work.created;
-        rest = [];
-        front = sym (append-nil (changes_of makes version (needed_of version last sources) asked.jobs));
-        fit = asked.fit;
-      }
+    pub stored_soundly : IsSoundStored builders stored
+    stored_soundly = told_soundly builders stored (seen old.0) file tells sound stands
 
-module _ (creates : List ℕ → CreateInput → CreateAnswer) (makes : JobInput → Outcome) (offers : List Offer) (folder : List ℕ) (last : Last) where
-  pub unfound_where_told : (tree : Option Files) → (version_of offers copy_name ≡ None) ⊎ IfSome tree (IsUnreadable folder) → IfSome tree (IsUnbuilt creates makes offers folder last)
-  unfound_where_told None why = tt
-  unfound_where_told (Some files) (inl none_offered) = no_copy none_offered
-  unfound_where_told (Some files) (inr why) = unreadable why
+    stopped_with : (given : List Whole) (answered : ℕ) → Commits seen may_leave clock left_at room faults mid new stored given answered → (given ≡ []) ⊎ IfSome tree (AreFirst builders offers folder stored.tables given)
+        → Stopped seen may_leave clock left_at room faults old new builders offers folder tree file
+    stopped_with given answered commits first = record {
+      stored = stored;
+      lawful = is_stored;
+      given = given;
+      answered = answered;
+      runs = runs_on seen may_leave clock left_at room faults old mid stored opens stands new given answered telling commits;
+      first = first;
+    }
 
-  pub refused_where_told : (tree : Option Files) (version : ℕ) (sources : List Source) → version_of offers copy_name ≡ Some version →
-      IfSome tree (λ files. AreSources folder files sources) → IsRefused creates makes version last sources → IfSome tree (IsUnbuilt creates makes offers folder last)
-  refused_where_told None version sources offered found why = tt
-  refused_where_told (Some files) version sources offered found why = refused version sources (record { offered = offered; found = found }) why
+    first_of : (config : Config) (winners : List Winner) → IsFound builders offers folder tree config winners → (given : List Whole) → IsFrontOf given (changes builders config winners stored.tables)
+        → IfSome tree (AreFirst builders offers folder stored.tables given)
+    first_of config winners found given front = each tree (λ files. IsProject offers folder files config winners) (AreFirst builders offers folder stored.tables given) found.told
+        (λ files on. record { config = config; winners = winners; on = on; front = front })
 
-  pub works_where_told : (tree : Option Files) (version : ℕ) (sources : List Source) → version_of offers copy_name ≡ Some version →
-      IfSome tree (λ files. AreSources folder files sources) → IfSome tree (λ files. WorksOn offers folder files version sources)
-  works_where_told None version sources offered found = tt
-  works_where_told (Some files) version sources offered found = record { offered = offered; found = found }
+    -- a run that was stopped
+    pub halted_run : Halted builders offers folder tree seen may_leave clock left_at room faults mid new stored → Stopped seen may_leave clock left_at room faults old new builders offers folder tree file
+    halted_run (at_once stop) = stopped_with stop.given stop.answered stop.commits (inl (none_in_front stop.given stop.front.rest stop.front.joined))
+    halted_run (early config winners found inputs stop) =
+        let whole : HasStopped seen may_leave clock left_at room faults mid new stored (changes builders config winners stored.tables) =
+        stopped_before seen may_leave clock left_at room faults mid new stored (front_changes builders config winners stored.tables) (job_changes builders config winners (with_creations builders config winners stored.tables)) stop in
+        stopped_with whole.given whole.answered whole.commits (inr (first_of config winners found whole.given whole.front))
+    halted_run (late config winners found free typed stop) = stopped_with stop.given stop.answered stop.commits (inr (first_of config winners found stop.given stop.front))
+
+    none_of : EachFrontIsSound builders stored []
+    none_of zero = stored_soundly.rows
+    none_of (suc k) = stored_soundly.rows
+
+    pub halted_soundly : Halted builders offers folder tree seen may_leave clock left_at room faults mid new stored → LeavesOnly seen may_leave clock left_at room faults old new (IsSound builders)
+    halted_soundly (at_once stop) = runs_leave_sound builders stored stored_soundly [] tt none_of seen may_leave clock left_at room faults old new stop.answered file tells
+        (subst (λ (given : List Whole). RunsOn seen may_leave clock left_at room faults old new stored given stop.answered) (none_in_front stop.given stop.front.rest stop.front.joined)
+        (runs_on seen may_leave clock left_at room faults old mid stored opens stands new stop.given stop.answered telling stop.commits))
+    halted_soundly (early config winners found inputs stop) =
+        opened_early_stop_stays_sound seen may_leave clock left_at room faults builders old file tells config winners found.quiet new stored sound mid opens stands telling inputs stop
+    halted_soundly (late config winners found free typed stop) =
+        opened_stop_stays_sound seen may_leave clock left_at room faults builders old file tells config winners found.quiet new stored sound mid opens stands telling free typed stop
+
+    -- one that went to its end
+    module _ (db db' : Db) (contents contents' : List (Option ContentEntry)) (bench bench' : List Entry)
+        (ran : Settled builders offers folder tree seen may_leave clock left_at room faults db db' contents contents' mid new stored bench bench') where
+      abbrev all_changes : List Whole
+      all_changes = changes builders ran.config ran.winners stored.tables
+
+      pub settled_run : Stopped seen may_leave clock left_at room faults old new builders offers folder tree file
+      settled_run = stopped_with all_changes (length all_changes) ran.committed.commits
+          (inr (first_of ran.config ran.winners ran.found all_changes (all_are_front all_changes)))
+
+      pub settled_soundly : LeavesOnly seen may_leave clock left_at room faults old new (IsSound builders)
+      settled_soundly = opened_run_stays_sound seen may_leave clock left_at room faults builders old file tells ran.config ran.winners ran.found.quiet new stored sound mid opens stands telling ran.free ran.typed db db' contents contents' ran.committed
+
+      -- its tables
+      pub tables_are : (all_committed stored all_changes).tables ≡ settled builders ran.config ran.winners
+      tables_are = run_settles builders ran.config ran.winners ran.found.quiet ran.free ran.typed stored stored_soundly seen may_leave clock left_at room faults db db' contents contents' mid new ran.committed
+
+      -- the rows by number stand for them
+      pub rows_are : (tables : Tables) (numbers : List (Option ContentEntry)) → tables ≡ db'.state.tables → numbers ≡ contents' → AreRowsOf tables numbers (all_committed stored all_changes).tables
+      rows_are tables numbers same_tables same_numbers = (
+        db'.state.things.items,
+        subst (λ (t : Tables). TablesAre (Names db'.state.things.items numbers) t (all_committed stored all_changes).tables) (sym same_tables)
+            (subst (λ (n : List (Option ContentEntry)). TablesAre (Names db'.state.things.items n) db'.state.tables (all_committed stored all_changes).tables) (sym same_numbers) ran.committed.ready.beside.stands.tables),
+      )
+
+      -- they were delivered, or why not
+      pub built_at_end : (Laid : Files → Type 0) (Told : Counts → Type 0) → Delivered Laid Told (all_committed stored all_changes).tables → IfSome tree (λ files. ¬ IsUnbuilt builders offers folder files)
+      built_at_end Laid Told delivered = let of_settled : Delivered Laid Told (settled builders ran.config ran.winners) = subst (Delivered Laid Told) tables_are delivered in
+          is_built builders offers folder tree ran.config ran.winners ran.found ran.free of_settled.made of_settled.apart
+
+      pub unbuilt_at_end : (have_one_product (all_committed stored all_changes).tables ≡ false) ⊎ ¬ AreApart (files_of (all_committed stored all_changes).tables) → IfSome tree (IsUnbuilt builders offers folder)
+      unbuilt_at_end why = undelivered builders offers folder tree ran.config ran.winners ran.found ran.free
+          (subst (λ (t : PlainTables). (have_one_product t ≡ false) ⊎ ¬ AreApart (files_of t)) tables_are why)
+
+      -- and all that it did
+      module _ (entries : List Entry) (are : entries ≡ drop (length bench) bench') (Laid : Files → Type 0) (Told : List Entry → Counts → Type 0)
+          (delivered : Delivered Laid (Told entries) (all_committed stored all_changes).tables) where
+        entries_are : entries ≡ need builders ran.config ran.winners stored.tables
+        entries_are = are ∙ ap (drop (length bench)) ran.asked ∙ drop_at bench (need builders ran.config ran.winners stored.tables) (length bench) refl
+
+        settled_delivered : Delivered Laid (Told entries) (settled builders ran.config ran.winners)
+        settled_delivered = subst (Delivered Laid (Told entries)) tables_are delivered
+
+        pub ran_to_end : IfSome tree (λ files. Ran seen may_leave clock left_at room faults old new builders offers folder bench bench' Laid Told files file)
+        ran_to_end = each tree (λ files. IsProject offers folder files ran.config ran.winners) (λ files. Ran seen may_leave clock left_at room faults old new builders offers folder bench bench' Laid Told files file)
+            ran.found.told (λ files on. record {
+              config = ran.config;
+              winners = ran.winners;
+              on = on;
+              stored = stored;
+              lawful = is_stored;
+              asked = ran.asked;
+              runs = runs_on seen may_leave clock left_at room faults old mid stored opens stands new all_changes (length all_changes) telling ran.committed.commits;
+              settles = record {
+                read = reads_settled builders ran.config ran.winners ran.found.quiet ran.free ran.typed stored stored_soundly seen may_leave clock left_at room faults db db' contents contents' mid new ran.committed;
+                left = crash_leaves_settled builders ran.config ran.winners ran.found.quiet ran.free ran.typed stored stored_soundly seen may_leave clock left_at room faults db db' contents contents' mid new ran.committed;
+              };
+              apart = settled_delivered.apart;
+              laid = settled_delivered.laid;
+              told = subst (λ (l : List Entry). Told l (counts_of (settled builders ran.config ran.winners))) entries_are settled_delivered.told;
+            })

@@ -12,7 +12,7 @@ use Rattle.ap_builder.specs.declared.work.CreateAnswer.TheVariants.{Jobs}
 use Rattle.ap_builder.specs.declared.work.JobInput.{JobInput}
 use Rattle.ap_builder.specs.declared.work.Outcome.{Outcome}
 use Rattle.ap_builder.specs.declared.work.Outcome.TheVariants.{Done}
-use Rattle.ap_cli.specs.Work.{copy_name}
+use Rattle.ap_cli.specs.Project.{copy_name}
 
 -- one builder, for every path
 abbrev pub copy_offers : List Offer

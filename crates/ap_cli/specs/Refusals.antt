@@ -1,8 +1,10 @@
 -- The status and the line of each refusal.
 use Rattle.std.specs.Prelude.{◌≡◌, ◌⊎◌, ℕ, List, [], ◌∷◌, ◌++◌, Option, codes, decimal}
 use Rattle.ap_tree.specs.Written.{Gains}
-use Rattle.ap_work.specs.declared.fault.WorkFault.{WorkFault}
-use Rattle.ap_work.specs.declared.fault.WorkFault.TheVariants.{OutOfMemory, DiskFault, BadRecord, Full as WorkFull}
+use Rattle.ap_db.specs.declared.fault.DbFault.{DbFault}
+use Rattle.ap_db.specs.declared.fault.DbFault.TheVariants.{OutOfMemory, DiskFault, BadStore as BadDb, StoreFull, Spent}
+use Rattle.ap_engine.specs.declared.fault.EngineFault.{EngineFault}
+use Rattle.ap_engine.specs.declared.fault.EngineFault.TheVariants.{Db, Unbuilt as EngineUnbuilt}
 use Rattle.ap_cli.specs.Output.{GainsFront}
 use Rattle.ap_cli.specs.declared.stop.Stop.{Stop}
 use Rattle.ap_cli.specs.declared.stop.Stop.TheVariants.{Usage, Tree, Cache, Disk, Output, Memory, BadStore, Full, Unbuilt}
@@ -14,7 +16,7 @@ status_of Cache = 5
 status_of Disk = 6
 status_of Output = 7
 status_of Memory = 8
-status_of (BadStore n) = 9
+status_of (BadStore place offset) = 9
 status_of (Full length wanted) = 11
 status_of Unbuilt = 13
 
@@ -26,16 +28,22 @@ refusal_line Cache = codes "ap: cache fault" ++ 10 ∷ []
 refusal_line Disk = codes "ap: disk fault" ++ 10 ∷ []
 refusal_line Output = []
 refusal_line Memory = codes "ap: out of memory" ++ 10 ∷ []
-refusal_line (BadStore n) = codes "ap: bad store: record " ++ (decimal n ++ codes " offset 0\n")
+refusal_line (BadStore place offset) = codes "ap: bad store: record " ++ (decimal place ++ (codes " offset " ++ (decimal offset ++ codes "\n")))
 refusal_line (Full length wanted) = codes "ap: store full: length " ++ (decimal length ++ (codes " wanted " ++ (decimal wanted ++ codes "\n")))
 refusal_line Unbuilt = codes "ap: unbuilt" ++ 10 ∷ []
 
--- what a refusal of the journal of work makes of a run
-abbrev pub of_work : WorkFault → Stop
-of_work OutOfMemory = Memory
-of_work DiskFault = Disk
-of_work (BadRecord n) = BadStore n
-of_work (WorkFull length wanted) = Full length wanted
+-- what a refusal of the database makes of a run; a disk of one that is spent has failed before
+abbrev pub of_db : DbFault → Stop
+of_db OutOfMemory = Memory
+of_db DiskFault = Disk
+of_db (BadDb place offset) = BadStore place offset
+of_db (StoreFull length wanted) = Full length wanted
+of_db Spent = Disk
+
+-- and one of the engine
+abbrev pub of_engine : EngineFault → Stop
+of_engine (Db fault) = of_db fault
+of_engine EngineUnbuilt = Unbuilt
 
 -- a refusal of this status, for a reason with this cause, has written its line, whole or, where the sink's count rose, a front of it
 pub record Refuses (status : ℕ) (before now : Option (List ℕ)) (Rose : Type 0) (IsCaused : Stop → Type 0) : Type 0 where

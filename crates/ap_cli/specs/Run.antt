@@ -1,90 +1,65 @@
 -- What a run of `batch` does.
-use Rattle.std.specs.Prelude.{◌≡◌, ℕ, List, ◌++◌, length, Some}
-use Rattle.std.specs.List.{AllByRecursion}
+use Rattle.std.specs.Prelude.{◌≡◌, ◌⊎◌, ℕ, List, [], ◌++◌, length, Option, Ok, IfSome}
+use Rattle.ap_builder.specs.Meanings.{Meanings}
 use Rattle.ap_builder.specs.declared.entry.Entry.{Entry}
-use Rattle.ap_builder.specs.declared.product.Product.{Product}
-use Rattle.ap_rows.specs.declared.job.JobDesc.{JobDesc}
+use Rattle.ap_config.specs.declared.config.Config.{Config}
 use Rattle.ap_config.specs.declared.offer.Offer.{Offer}
-use Rattle.ap_builder.specs.declared.work.CreateInput.{CreateInput}
-use Rattle.ap_builder.specs.declared.work.CreateAnswer.{CreateAnswer}
-use Rattle.ap_builder.specs.declared.work.JobInput.{JobInput}
-use Rattle.ap_builder.specs.declared.work.Outcome.{Outcome}
-use Rattle.ap_work.specs.Last.{HasLast}
+use Rattle.ap_scan.specs.declared.results.Winner.{Winner}
+use Rattle.ap_db.specs.Changes.{Whole}
+use Rattle.ap_db.specs.Stored.{Stored, stored_in}
+use Rattle.ap_db.specs.Tables.{PlainTables}
+use Rattle.ap_engine.specs.Changes.{changes}
+use Rattle.ap_engine.specs.Ledgers.{RunsOn}
+use Rattle.ap_engine.specs.Need.{need}
+use Rattle.ap_engine.specs.Settled.{settled}
+use Rattle.ap_engine.specs.Stops.{IsFrontOf}
 use Rattle.ap_cli.specs.declared.report.Counts.{Counts}
-use Rattle.ap_cli.specs.declared.source.Source.{Source}
-use Rattle.ap_cli.specs.Sources.{Files, AreSources}
-use Rattle.ap_cli.specs.Layout.{AreApart}
-use Rattle.ap_cli.specs.Recorded.{Last, needed_of, put_of, changes_of, AreFitRecords, scratch_of}
-use Rattle.ap_cli.specs.Soundness.{IsSoundRecord, IsSound}
-use Rattle.ap_cli.specs.Work.{copy_name, version_of, jobs_of, products_of, create_entries, process_entries}
+use Rattle.ap_cli.specs.Sources.{Files}
+use Rattle.ap_cli.specs.Project.{IsProject}
+use Rattle.ap_cli.specs.Layout.{AreApart, files_of}
+use Rattle.ap_cli.specs.Store.{HasNow}
 
--- what each source is asked for: first a create of each, then a process of each
-abbrev pub entries_of : List Source → List JobDesc → List Entry
-entries_of sources jobs = create_entries sources ++ process_entries sources jobs
-
--- what a run without problems counts: each source has one job, which is done
-abbrev pub counts_of : List Source → Files → Counts
-counts_of sources put = record {
-  sources = length sources;
-  jobs = length sources;
-  done = length sources;
-  published = length put;
+-- what a run without problems counts over its tables: each job is done, and each product is published
+abbrev pub counts_of : PlainTables → Counts
+counts_of tables = record {
+  sources = length tables.sources;
+  jobs = length tables.jobs;
+  done = length tables.jobs;
+  published = length (files_of tables);
   shadowed = 0;
-  wrote = length put;
+  wrote = length (files_of tables);
   removed = 0;
 }
 
--- the jobs that `copy` of this version creates for the needed sources, and the products that it makes of them
-pub record IsWork (creates : List ℕ → CreateInput → CreateAnswer) (makes : JobInput → Outcome) (version : ℕ) (needed : List Source) (jobs : List JobDesc) (made : List Product) : Type 0 where
-  pub created : jobs_of creates version needed ≡ Some jobs
-  pub processed : products_of makes needed jobs ≡ Some made
+-- changes that are the first of those that a run over these tables commits
+pub record AreFirst (builders : Meanings) (offers : List Offer) (folder : List ℕ) (tables : PlainTables) (given : List Whole) (files : Files) : Type 0 where
+  pub config : Config
+  pub winners : List Winner
+  pub on : IsProject offers folder files config winners
+  pub front : IsFrontOf given (changes builders config winners tables)
 
--- what a run works on: the version of `copy`, and the folder's files
-pub record WorksOn (offers : List Offer) (folder : List ℕ) (files : Files) (version : ℕ) (sources : List Source) : Type 0 where
-  pub offered : version_of offers copy_name ≡ Some version
-  pub found : AreSources folder files sources
+module _ {D : Type 0} (seen : D → Option (List ℕ)) (may_leave : D → List ℕ → Type 0) (clock : D → Option ℕ) (left_at : D → ℕ → List ℕ → Type 0) (room faults : D → ℕ) (old new : D × D)
+    (builders : Meanings) (offers : List Offer) (folder : List ℕ) where
+  -- a run to its end over a store's file: what it asked for, and its whole changes, after which the tables are the
+  -- settled ones; what holds of the cache by their products, and of the sink by the entries and the counts
+  pub record Ran (bench bench' : List Entry) (Laid : Files → Type 0) (Told : List Entry → Counts → Type 0) (files : Files) (file : List ℕ) : Type 0 where
+    pub config : Config
+    pub winners : List Winner
+    pub on : IsProject offers folder files config winners
+    pub stored : Stored
+    pub lawful : stored_in file ≡ Ok stored
+    pub asked : bench' ≡ bench ++ need builders config winners stored.tables
+    pub runs : RunsOn seen may_leave clock left_at room faults old new stored (changes builders config winners stored.tables) (length (changes builders config winners stored.tables))
+    pub settles : HasNow seen may_leave new (settled builders config winners)
+    pub apart : AreApart (files_of (settled builders config winners))
+    pub laid : Laid (files_of (settled builders config winners))
+    pub told : Told (need builders config winners stored.tables) (counts_of (settled builders config winners))
 
--- what came of these sources, of which these were needed, with what the bench gained; what holds of the store by the records of this run
-pub record Asked (creates : List ℕ → CreateInput → CreateAnswer) (makes : JobInput → Outcome) (version : ℕ) (needed : List Source) (made : List Product) (bench bench' : List Entry)
-    (Kept : List (List ℕ) → Type 0) : Type 0 where
-  pub jobs : List JobDesc
-  pub work : IsWork creates makes version needed jobs made
-  pub asked : bench' ≡ bench ++ entries_of needed jobs
-  pub kept : Kept (changes_of makes version needed jobs)
-  pub fit : AreFitRecords makes version (changes_of makes version needed jobs) needed jobs
-
--- what a run has asked for and made, with what holds of the store by its records, of the cache by the products, and of the sink by the
--- report. Where each record of the store was one of the builder's answers, the products are those of all sources from scratch
-pub record Ran (creates : List ℕ → CreateInput → CreateAnswer) (makes : JobInput → Outcome) (offers : List Offer) (folder : List ℕ) (bench bench' : List Entry)
-    (Kept : List (List ℕ) → Type 0) (Laid : Files → Type 0) (Told : List Entry → Counts → Type 0) (files : Files) (file : List ℕ) : Type 0 where
-  pub version : ℕ
-  pub sources : List Source
-  pub on : WorksOn offers folder files version sources
-  pub last : Last
-  pub recorded : HasLast file last
-  pub made : List Product
-  pub asked : Asked creates makes version (needed_of version last sources) made bench bench' Kept
-  pub apart : AreApart (put_of version last sources made)
-  pub laid : Laid (put_of version last sources made)
-  pub told : Told (entries_of (needed_of version last sources) asked.jobs) (counts_of sources (put_of version last sources made))
-  pub scratch : IsSound creates makes file → scratch_of creates makes version sources ≡ Some (put_of version last sources made)
-
--- records that are the first of those that these needed sources get
-pub record AreNext (creates : List ℕ → CreateInput → CreateAnswer) (makes : JobInput → Outcome) (version : ℕ) (needed : List Source) (given : List (List ℕ)) : Type 0 where
-  pub jobs : List JobDesc
-  pub created : jobs_of creates version needed ≡ Some jobs
-  pub rest : List (List ℕ)
-  pub front : changes_of makes version needed jobs ≡ given ++ rest
-  pub fit : AreFitRecords makes version given needed jobs
-
--- records that are the first of those that a run commits, each of which is one of the builder's answers
-pub record AreFirst (creates : List ℕ → CreateInput → CreateAnswer) (makes : JobInput → Outcome) (offers : List Offer) (folder : List ℕ) (given : List (List ℕ)) (last : Last) (files : Files) : Type 0 where
-  pub version : ℕ
-  pub sources : List Source
-  pub on : WorksOn offers folder files version sources
-  pub next : AreNext creates makes version (needed_of version last sources) given
-  pub sound : AllByRecursion (IsSoundRecord creates makes) given
-
--- with the last records of a store
-abbrev pub OnLast : (Last → Files → Type 0) → Files → List ℕ → Type 0
-OnLast P files file = (last : Last) × HasLast file last × P last files
+  -- a run, stopped anywhere, has given the first of its whole changes to the store, so many of which answered Ok
+  pub record Stopped (tree : Option Files) (file : List ℕ) : Type 0 where
+    pub stored : Stored
+    pub lawful : stored_in file ≡ Ok stored
+    pub given : List Whole
+    pub answered : ℕ
+    pub runs : RunsOn seen may_leave clock left_at room faults old new stored given answered
+    pub first : (given ≡ []) ⊎ IfSome tree (AreFirst builders offers folder stored.tables given)

@@ -1,9 +1,13 @@
-ghost use Rattle.std.specs.Prelude.{◌≡◌, ◌≤◌, ◌⊎◌, ℕ, List, Contains, IsPermutation, IfOk, IfErr, IfSome, Some, map};
+ghost use Rattle.std.specs.Prelude.{◌≡◌, ◌≤◌, ◌⊎◌, ℕ, true, nat_lt, List, length, IsPermutation, IfOk, IfErr, IfSome, Option, Some, None, map};
+ghost use Rattle.std.specs.List.{AllByRecursion};
 ghost use Rattle.std.specs.List.Sorted.{IsStrictlySortedBy};
 ghost use Rattle.ap_text.specs.Causes.{Rose};
 ghost use Rattle.ap_text.specs.PathRules.{IsRelPath};
+ghost use Rattle.ap_text.specs.declared.seen.Seen.TheVariants.{Bytes as SeenBytes};
+ghost use Rattle.ap_rows.specs.Readers.{is_folded};
+ghost use Rattle.ap_sources.specs.Sources.{bytes_seen};
 ghost use Rattle.ap_tree.specs.Files.{content_at, seen_up_to};
-ghost use Rattle.ap_cli.specs.Sources.{AreSources, IsReadable, HasOwnPaths, in_folder};
+ghost use Rattle.ap_cli.specs.Sources.{AreSources, IsReadable, HasOwnPaths, in_folder, source_cmp};
 ghost use Rattle.ap_cli.specs.Listing.{listing_of, listing_cmp, read_of, has_new_paths};
 ghost use Rattle.ap_cli.specs.Unbuilt.{IsUnreadable};
 ghost use Rattle.ap_cli.specs.declared.stop.Stop.TheVariants.{Tree as TreeStop, Memory, Unbuilt};
@@ -13,6 +17,9 @@ use crate::stop::Stop;
 use ap_text::{Bytes, OutOfMemory, PathFault, RelPath, Seen};
 use ap_tree::{Tree, TreeFault};
 use std::alloc::Global;
+
+/// How many bytes a source may have.
+const SOURCE_LIMIT: usize = 4_194_304;
 
 /// Lists a folder, and reads its files in the order of their folded paths.
 pub(crate) fn gather<T: Tree>(
@@ -24,6 +31,8 @@ pub(crate) fn gather<T: Tree>(
     ensures unbuilt { IfErr result (λ stop. stop ≡ Unbuilt → IfSome (T.files tree.old) (IsUnreadable folder.now)) }
     ensures cause { IfErr result (λ stop. stop ≡ TreeStop → Rose (T.faults tree.old) (T.faults tree.new)) }
     ensures only { IfErr result (λ stop. (stop ≡ Memory) ⊎ (stop ≡ TreeStop) ⊎ (stop ≡ Unbuilt)) }
+    ensures rises { IfOk result (λ sources. IsStrictlySortedBy source_cmp sources.items) }
+    ensures each { IfOk result (λ sources. AllByRecursion (λ source. (is_folded source.path ≡ true) × (length source.bytes ≤ 4194304)) sources.items) }
     ensures same { T.files tree.new ≡ T.files tree.old }
     ensures later { T.faults tree.old ≤ T.faults tree.new }
 {
@@ -124,10 +133,14 @@ fn read_all<T: Tree>(
     folder: &RelPath,
     listed: &[(RelPath, RelPath)],
 ) -> Result<Vec<Source>, Stop>
+    requires rises { IsStrictlySortedBy listing_cmp listed.now }
+    requires folded { AllByRecursion (λ file. is_folded file.0 ≡ true) listed.now }
     ensures read { IfOk result (λ sources. IfSome (T.files tree.old) (λ files. read_of folder.now files listed.now ≡ Some sources.items)) }
     ensures unbuilt { IfErr result (λ stop. stop ≡ Unbuilt → IfSome (T.files tree.old) (λ files. read_of folder.now files listed.now ≡ None)) }
     ensures cause { IfErr result (λ stop. stop ≡ TreeStop → Rose (T.faults tree.old) (T.faults tree.new)) }
     ensures only { IfErr result (λ stop. (stop ≡ Memory) ⊎ (stop ≡ TreeStop) ⊎ (stop ≡ Unbuilt)) }
+    ensures rises { IfOk result (λ sources. IsStrictlySortedBy source_cmp sources.items) }
+    ensures each { IfOk result (λ sources. AllByRecursion (λ source. (is_folded source.path ≡ true) × (length source.bytes ≤ 4194304)) sources.items) }
     ensures same { T.files tree.new ≡ T.files tree.old }
     ensures later { T.faults tree.old ≤ T.faults tree.new }
 {
@@ -144,6 +157,7 @@ fn read_all<T: Tree>(
     Ok(sources)
 }
 
+/// How a file is seen, too large above 4,194,304 bytes whatever the tree says.
 fn read_one<T: Tree>(
     alloc: Global,
     tree: &mut T,
@@ -152,6 +166,7 @@ fn read_one<T: Tree>(
 ) -> Result<Seen, Stop>
     ensures seen { IfOk result (λ seen. IfSome (T.files tree.old)
         (λ files. seen ≡ seen_up_to 4194304 (content_at files (in_folder folder.now name.now)))) }
+    ensures small { IfOk result (λ seen. (bytes : List ℕ) → seen ≡ SeenBytes bytes → length bytes ≤ 4194304) }
     ensures cause { IfErr result (λ stop. stop ≡ TreeStop → Rose (T.faults tree.old) (T.faults tree.new)) }
     ensures only { IfErr result (λ stop. (stop ≡ Memory) ⊎ (stop ≡ TreeStop)) }
     ensures same { T.files tree.new ≡ T.files tree.old }
@@ -159,8 +174,29 @@ fn read_one<T: Tree>(
 {
     let path = path_of(alloc, folder, name)?;
     match tree.read(alloc, &path) {
-        Ok(seen) => Ok(seen),
+        Ok(seen) => Ok(in_limit(seen)),
         Err(fault) => Err(stop_of(fault)),
+    }
+}
+
+/// What is seen, and too large where that has more bytes than a source may have.
+fn in_limit(seen: Seen) -> Seen
+    ensures small { (bytes : List ℕ) → result ≡ SeenBytes bytes → length bytes ≤ 4194304 }
+    ensures same { (content : Option (List ℕ)) → seen ≡ seen_up_to 4194304 content → result ≡ seen }
+{
+    if is_over_limit(&seen) {
+        Seen::TooLarge
+    } else {
+        seen
+    }
+}
+
+fn is_over_limit(seen: &Seen) -> bool
+    ensures { result ≡ nat_lt 4194304 (length (bytes_seen seen.now)) }
+{
+    match seen {
+        Seen::Bytes(bytes) => bytes.as_slice().len() > SOURCE_LIMIT,
+        Seen::Absent | Seen::TooLarge => false,
     }
 }
 

@@ -1,10 +1,11 @@
 ghost use Rattle.std.specs.Prelude.{◌≡◌, ◌≢◌, ◌⊎◌, ℕ, List, IfSome};
 ghost use Rattle.ap_tree.specs.Changes.{TellsAs};
+ghost use Rattle.ap_engine.specs.Asked.{meanings_of};
+ghost use Rattle.ap_engine.specs.Sound.{IsSound};
 ghost use Rattle.ap_cli.specs.Lines.{report_lem};
 ghost use Rattle.ap_cli.specs.Output.{TakesShort};
 ghost use Rattle.ap_cli.specs.Overlay.{Overlays};
 ghost use Rattle.ap_cli.specs.Run.{Ran};
-ghost use Rattle.ap_cli.specs.Store.{Gained};
 ghost use Rattle.ap_cli.specs.Words.{IsBatch, OnBatch};
 
 use crate::top::run;
@@ -28,11 +29,10 @@ pub fn run_in_memory<B: Builders + Sync>(
     ensures others { (result ≡ 0) ⊎ (result ≡ 2) ⊎ (result ≡ 7) ⊎ (result ≡ 8) ⊎ (result ≡ 9) ⊎ (result ≡ 11) ⊎ (result ≡ 13) }
     ensures usage { result ≡ 2 → (folder : List ℕ) → ¬ IsBatch words.now folder }
     ensures batch { result ≢ 2 → result ≢ 8 → (folder : List ℕ) × IsBatch words.now folder }
-    ensures room { result ≡ 7 → OnBatch words.now (⟦<SureMemoryTree as Tree>⟧.files tree.old) (λ folder files. IfSome (⟦<SureMemoryDisk as Disk>⟧.seen store.old.0)
-        (Ran B.creates B.makes (B.offers builders.now) folder bench.old bench.new
-        (Gained ⟦<SureMemoryDisk as Disk>⟧.seen ⟦<SureMemoryDisk as Disk>⟧.may_leave ⟦<SureMemoryDisk as Disk>⟧.clock ⟦<SureMemoryDisk as Disk>⟧.left_at ⟦<SureMemoryDisk as Disk>⟧.room ⟦<SureMemoryDisk as Disk>⟧.faults store.old store.new)
+    ensures room { result ≡ 7 → IfSome (⟦<SureMemoryDisk as Disk>⟧.seen store.old.0) (λ file. IsSound (meanings_of B.declares B.creates B.makes) file → OnBatch words.now (⟦<SureMemoryTree as Tree>⟧.files tree.old) (λ folder files.
+        Ran ⟦<SureMemoryDisk as Disk>⟧.seen ⟦<SureMemoryDisk as Disk>⟧.may_leave ⟦<SureMemoryDisk as Disk>⟧.clock ⟦<SureMemoryDisk as Disk>⟧.left_at ⟦<SureMemoryDisk as Disk>⟧.room ⟦<SureMemoryDisk as Disk>⟧.faults store.old store.new (meanings_of B.declares B.creates B.makes) (B.offers builders.now) folder bench.old bench.new
         (λ put. TellsAs (⟦<SureMemoryCache as CacheDir>⟧.files cache.old) (⟦<SureMemoryCache as CacheDir>⟧.files cache.new) (Overlays put))
-        (λ entries counts. TakesShort (⟦<SureMemorySink as Sink>⟧.room out.old) (⟦<SureMemorySink as Sink>⟧.written out.old) (⟦<SureMemorySink as Sink>⟧.written out.new) (report_lem entries counts)) files)) }
+        (λ entries counts. TakesShort (⟦<SureMemorySink as Sink>⟧.room out.old) (⟦<SureMemorySink as Sink>⟧.written out.old) (⟦<SureMemorySink as Sink>⟧.written out.new) (report_lem entries counts)) files file)) }
 {
     run(alloc, words, tree, cache, store, builders, bench, out)
 }

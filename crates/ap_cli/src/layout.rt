@@ -1,8 +1,10 @@
-ghost use Rattle.std.specs.Prelude.{◌≡◌, ◌++◌, IfOk, codes};
+ghost use Rattle.std.specs.Prelude.{◌≡◌, ◌++◌, IfOk};
+ghost use Rattle.ap_text.specs.PathRules.{parent_lem};
+ghost use Rattle.ap_rows.specs.Inputs.{PlainProduct};
 ghost use Rattle.ap_cli.specs.Layout.{beside, cache_file};
+ghost use Rattle.ap_cli.specs.Sources.{in_folder};
 
-use crate::source::Source;
-use ap_text::{Bytes, FileName, OutOfMemory};
+use ap_text::{Bytes, FileName, JobId, OutOfMemory};
 use std::alloc::Global;
 use std::marker::Model;
 
@@ -35,28 +37,29 @@ impl<'a> CacheFile<'a> {
     }
 }
 
-/// A product of this name and these bytes as the cache has it.
+/// A job's product of this name and these bytes as the cache has it.
 pub(crate) fn cache_file<'a>(
     alloc: Global,
-    source: &Source,
+    id: &JobId,
     name: &FileName,
-    bytes: &'a Bytes,
+    bytes: &'a [u8],
 ) -> Result<CacheFile<'a>, OutOfMemory>
-    ensures { IfOk result (λ file. file ≡ cache_file source.now name.now bytes.now) }
+    ensures { IfOk result (λ file. (product : PlainProduct) → product.name ≡ name.now → product.bytes ≡ bytes.now → file ≡ cache_file id.now product) }
 {
-    let path = cache_path(alloc, source.path.parent(), name.as_slice())?;
+    let path = cache_path(alloc, id, name.as_slice())?;
     Ok(CacheFile {
         path: Bytes::of(path),
-        bytes: bytes.as_slice(),
+        bytes,
     })
 }
 
-/// The path in the cache of a product of this name, whose source lies in this folder.
-fn cache_path(alloc: Global, folder: &str, name: &[u8]) -> Result<Vec<u8>, OutOfMemory>
-    ensures { IfOk result (λ path. path.items ≡ codes "pc/" ++ beside folder.now name.now) }
+/// The path in the cache of a job's product of this name.
+fn cache_path(alloc: Global, id: &JobId, name: &[u8]) -> Result<Vec<u8>, OutOfMemory>
+    ensures { IfOk result (λ path. path.items ≡ in_folder id.now.platform (beside (parent_lem id.now.source) name.now)) }
 {
-    let mut path = b"pc/".to_vec(alloc)?;
-    let name = path_beside(alloc, folder.as_bytes(), name)?;
+    let mut path = id.platform.as_slice().to_vec(alloc)?;
+    path.push(b'/')?;
+    let name = path_beside(alloc, id.source.parent().as_bytes(), name)?;
     path.extend_from_slice(&name)?;
     Ok(path)
 }

@@ -1,6 +1,6 @@
 //! The names that this part of the path knows.
 ghost use Rattle.std.specs.Prelude.{◌≡◌, IfOk};
-ghost use Rattle.ap_cli.specs.Work.{copy_name, pc_name};
+ghost use Rattle.ap_cli.specs.Project.{copy_name, pc_name};
 
 use ap_text::{Name, NameFault, OutOfMemory, Platform};
 use std::alloc::Global;

@@ -1,10 +1,11 @@
 ghost use Rattle.std.specs.Prelude.{◌≡◌, ◌≢◌, ◌++◌, codes, decimal, IfOk, IfErr};
 ghost use Rattle.std.specs.Cow.{cow_slice_items};
 ghost use Rattle.ap_cli.specs.declared.stop.Stop.TheVariants.{Memory, Output};
-ghost use Rattle.ap_cli.specs.Refusals.{status_of, refusal_line, of_work};
+ghost use Rattle.ap_cli.specs.Refusals.{status_of, refusal_line, of_db, of_engine};
 
+use ap_db::DbFault;
+use ap_engine::EngineFault;
 use ap_text::OutOfMemory;
-use ap_work::WorkFault;
 use std::alloc::{AllocError, AllocFailed, Global};
 use std::borrow::CowSlice;
 
@@ -22,9 +23,9 @@ pub enum Stop {
     /// The sink failed.
     Output,
     Memory,
-    /// The record of this number, from 1 on, isn't one of work; 0 where records stand in a file with another
-    /// mark.
-    BadStore { record: u64 },
+    /// The record of this number, from 1 on, isn't one of a database: what begins at this offset of its payload
+    /// is outside the grammar or not lawful. Both are 0 where records stand in a file with another mark.
+    BadStore { record: u64, offset: u64 },
     /// The next record doesn't fit: the store's file has `length` bytes, and the record takes `wanted`.
     Full { length: u64, wanted: u64 },
     /// The work needs what isn't built yet.
@@ -65,7 +66,9 @@ impl Stop {
             Stop::Disk => Ok(CowSlice::Borrowed(b"ap: disk fault\n")),
             Stop::Output => Ok(CowSlice::Borrowed(b"")),
             Stop::Memory => Ok(CowSlice::Borrowed(OUT_OF_MEMORY)),
-            Stop::BadStore { record } => Ok(CowSlice::Owned(bad_store(alloc, record)?)),
+            Stop::BadStore { record, offset } => {
+                Ok(CowSlice::Owned(bad_store(alloc, record, offset)?))
+            }
             Stop::Full { length, wanted } => {
                 Ok(CowSlice::Owned(store_full(alloc, length, wanted)?))
             }
@@ -77,12 +80,14 @@ impl Stop {
 /// The line for want of memory, which takes none.
 pub(crate) const OUT_OF_MEMORY: &[u8] = b"ap: out of memory\n";
 
-fn bad_store(alloc: Global, number: u64) -> Result<Vec<u8>, OutOfMemory>
-    ensures { IfOk result (λ line. line.items ≡ codes "ap: bad store: record " ++ (decimal number ++ codes " offset 0\n")) }
+fn bad_store(alloc: Global, number: u64, offset: u64) -> Result<Vec<u8>, OutOfMemory>
+    ensures { IfOk result (λ line. line.items ≡ codes "ap: bad store: record " ++ (decimal number ++ (codes " offset " ++ (decimal offset ++ codes "\n")))) }
 {
     let mut line = b"ap: bad store: record ".to_vec(alloc)?;
     line.extend_from_slice(number.to_string(alloc)?.as_bytes())?;
-    line.extend_from_slice(b" offset 0\n")?;
+    line.extend_from_slice(b" offset ")?;
+    line.extend_from_slice(offset.to_string(alloc)?.as_bytes())?;
+    line.push(b'\n')?;
     Ok(line)
 }
 
@@ -97,15 +102,29 @@ fn store_full(alloc: Global, length: u64, wanted: u64) -> Result<Vec<u8>, OutOfM
     Ok(line)
 }
 
-impl From<WorkFault> for Stop {
-    ghost from_gives = { λ fault stop. stop ≡ of_work fault };
+impl From<DbFault> for Stop {
+    ghost from_gives = { λ fault stop. stop ≡ of_db fault };
 
-    fn from(fault: WorkFault) -> Stop {
+    fn from(fault: DbFault) -> Stop {
         match fault {
-            WorkFault::OutOfMemory => Stop::Memory,
-            WorkFault::DiskFault => Stop::Disk,
-            WorkFault::BadRecord { record } => Stop::BadStore { record },
-            WorkFault::Full { length, wanted } => Stop::Full { length, wanted },
+            DbFault::OutOfMemory => Stop::Memory,
+            DbFault::DiskFault | DbFault::Spent => Stop::Disk,
+            DbFault::BadStore { place, offset } => Stop::BadStore {
+                record: place,
+                offset,
+            },
+            DbFault::StoreFull { length, wanted } => Stop::Full { length, wanted },
+        }
+    }
+}
+
+impl From<EngineFault> for Stop {
+    ghost from_gives = { λ fault stop. stop ≡ of_engine fault };
+
+    fn from(fault: EngineFault) -> Stop {
+        match fault {
+            EngineFault::Db(fault) => fault.into(),
+            EngineFault::Unbuilt => Stop::Unbuilt,
         }
     }
 }

@@ -15,6 +15,11 @@ use std::test::Fail;
 /// Room for all records of these tests.
 const ROOM: usize = 4096;
 
+/// How many calls a disk's log has room for, and how many written bytes.
+const CALLS: usize = 400;
+
+const LOGGED: usize = 16384;
+
 /// What a run left: its status, its output, the cache's files and how many entries the bench gained.
 #[derive(Drop)]
 struct Left {
@@ -76,7 +81,7 @@ fn pair(
     let alloc = rt.alloc();
     assert!(rt; 17 <= room && room <= ROOM && bytes.len() <= room);
     let bytes = bytes.to_vec(alloc)?;
-    let a = MemoryDisk::new(alloc, bytes, room, 200, ROOM, listed(alloc, failing)?)?;
+    let a = MemoryDisk::new(alloc, bytes, room, CALLS, LOGGED, listed(alloc, failing)?)?;
     let b = MemoryDisk::new(alloc, Vec::new(alloc), ROOM, 200, 0, Vec::new(alloc))?;
     Ok(Pair::new(a, b))
 }
@@ -314,7 +319,7 @@ fn rows_of_faults() -> [Row; 11] {
     ]
 }
 
-/// Stores that keep a run from going on: a record that isn't one of work, one under another mark, and one for
+/// Stores that keep a run from going on: a record that is none of a database, one under another mark, and one for
 /// which there is no room; and two in whose end no record stands.
 fn rows_of_stores() -> [Row; 5] {
     [
@@ -331,10 +336,10 @@ fn rows_of_stores() -> [Row; 5] {
             ..REFUSED
         },
         Row {
-            room: 51,
+            room: 682,
             status: 11,
-            output: "ap: store full: length 17 wanted 35\n",
-            entries: 3,
+            output: "ap: store full: length 524 wanted 159\n",
+            entries: 4,
             ..REFUSED
         },
         Row {

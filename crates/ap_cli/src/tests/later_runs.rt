@@ -25,32 +25,32 @@ fn turns() -> [Turn; 6] {
         Turn {
             tree: &[("game/a.txt", "1\n")],
             output: MADE_A,
-            length: 52,
+            length: 354,
         },
         Turn {
             tree: &[("game/a.txt", "1\n")],
             output: "sources 1 jobs 1 done 1 published 1 shadowed 0 wrote 1 removed 0\nok\n",
-            length: 52,
+            length: 354,
         },
         Turn {
             tree: &[("game/a.txt", "2\n")],
             output: MADE_A,
-            length: 87,
+            length: 707,
         },
         Turn {
             tree: &[("game/a.txt", "1\n")],
             output: MADE_A,
-            length: 122,
+            length: 1060,
         },
         Turn {
             tree: &[],
             output: "sources 0 jobs 0 done 0 published 0 shadowed 0 wrote 0 removed 0\nok\n",
-            length: 122,
+            length: 1133,
         },
         Turn {
             tree: &[("game/b.txt", "1\n"), ("game/a.txt", "1\n")],
-            output: "create copy b.txt\nprocess pc copy b.txt\nsources 2 jobs 2 done 2 published 2 shadowed 0 wrote 2 removed 0\nok\n",
-            length: 157,
+            output: "create copy a.txt\ncreate copy b.txt\nprocess pc copy a.txt\nprocess pc copy b.txt\nsources 2 jobs 2 done 2 published 2 shadowed 0 wrote 2 removed 0\nok\n",
+            length: 1755,
         },
     ]
 }
@@ -86,44 +86,39 @@ const THREE: [(&str, &str); 3] = [("game/a", "1"), ("game/b", ""), ("game/c", "3
 
 const THREE_MADE: &[(&str, &str)] = &[("pc/a", "1"), ("pc/b", ""), ("pc/c", "333")];
 
-/// The reports of runs over the three files that have the records of the first so many of them.
-const REPORTS: [&str; 4] = [
-    "create copy a\ncreate copy b\ncreate copy c\nprocess pc copy a\nprocess pc copy b\nprocess pc copy c\nsources 3 jobs 3 done 3 published 3 shadowed 0 wrote 3 removed 0\nok\n",
-    "create copy b\ncreate copy c\nprocess pc copy b\nprocess pc copy c\nsources 3 jobs 3 done 3 published 3 shadowed 0 wrote 3 removed 0\nok\n",
-    "create copy c\nprocess pc copy c\nsources 3 jobs 3 done 3 published 3 shadowed 0 wrote 3 removed 0\nok\n",
-    "sources 3 jobs 3 done 3 published 3 shadowed 0 wrote 3 removed 0\nok\n",
+/// The length of the store's file after each commit of a first run over the three files: the folder row, then
+/// the sources, the creations and the results by path.
+const LENGTHS: [usize; 10] = [37, 73, 108, 146, 255, 364, 473, 616, 759, 902];
+
+const CREATES: [&str; 3] = ["create copy a\n", "create copy b\n", "create copy c\n"];
+
+const PROCESSES: [&str; 3] = [
+    "process pc copy a\n",
+    "process pc copy b\n",
+    "process pc copy c\n",
 ];
 
-fn now(rt: &impl Abort, disk: &MemoryDisk) -> u64 {
-    match disk.clock() {
-        Some(now) => now,
-        None => panic!(rt; "no clock is told"),
+/// The report of a run over the three files, over a store that has the first so many commits.
+fn report(alloc: Global, kept: usize) -> Result<Vec<u8>, Fail> {
+    let created = kept.saturating_sub(4).min(3);
+    let processed = kept.saturating_sub(7).min(3);
+    let mut text = Vec::new(alloc);
+    for line in CREATES[created..].iter().chain(&PROCESSES[processed..]) {
+        text.extend_from_slice(line.as_bytes())?;
     }
-}
-
-/// The store after a first run over the first so many of the three files.
-fn stored(rt: &(impl Abort + AllocGlobal), count: usize) -> Result<Pair<MemoryDisk>, Fail> {
-    assert!(rt; count <= 3);
-    let mut store = pair(rt, b"", ROOM, None)?;
-    let left = left_by(
-        rt,
-        &["batch", "game"],
-        &THREE[..count],
-        &[],
-        &mut store,
-        &NONE,
+    text.extend_from_slice(
+        b"sources 3 jobs 3 done 3 published 3 shadowed 0 wrote 3 removed 0\nok\n",
     )?;
-    assert!(rt; left.status == 0);
-    Ok(store)
+    Ok(text)
 }
 
-/// The clock at which the first, the second and the third commit of a run had answered: the runs over fewer
-/// files make the same calls.
-fn exits(rt: &(impl Abort + AllocGlobal)) -> Result<[u64; 3], Fail> {
-    let one = now(rt, stored(rt, 1)?.disk(Side::A));
-    let two = now(rt, stored(rt, 2)?.disk(Side::A));
-    let three = now(rt, stored(rt, 3)?.disk(Side::A));
-    Ok([one, two, three])
+/// The bytes of the store after a first run over the three files, and the store.
+fn stored(rt: &(impl Abort + AllocGlobal)) -> Result<Pair<MemoryDisk>, Fail> {
+    let mut store = pair(rt, b"", ROOM, None)?;
+    let left = left_by(rt, &["batch", "game"], &THREE, &[], &mut store, &NONE)?;
+    assert!(rt; left.status == 0);
+    assert!(rt; store.disk(Side::A).bytes().len() == LENGTHS[9]);
+    Ok(store)
 }
 
 /// One image of a disk, at a moment of its calls.
@@ -142,48 +137,67 @@ fn image(
     Ok(disk.image(alloc, moment, fill)?)
 }
 
-/// That a run over the image of a moment has the records of all commits that had answered, and perhaps of the
-/// next one, and ends as the definition says.
+/// How many commits of the first run stand whole in these bytes: those whose records they have. The last byte of
+/// a file is where the next record will begin.
+fn commits_in(bytes: &[u8], whole: &[u8]) -> usize {
+    let same = bytes
+        .iter()
+        .zip(whole)
+        .take_while(|(byte, want)| byte == want)
+        .count();
+    LENGTHS
+        .iter()
+        .filter(|end| **end <= same.saturating_add(1))
+        .count()
+}
+
+/// That a run over the image of a moment asks for what the commits in it don't have, and ends as the definition
+/// says; how many they are.
 fn goes_on(
     rt: &(impl Abort + AllocGlobal),
-    disk: &MemoryDisk,
+    whole: &MemoryDisk,
     moment: u64,
     fill: u8,
-    exits: &[u64; 3],
-) -> Result<(), Fail> {
-    let stopped = image(rt, rt.alloc(), disk, moment, fill)?;
+) -> Result<usize, Fail> {
+    let alloc = rt.alloc();
+    let stopped = image(rt, alloc, whole, moment, fill)?;
+    let kept = commits_in(&stopped, whole.bytes());
+    let wanted = report(alloc, kept)?;
     let mut store = pair(rt, &stopped, ROOM, None)?;
     let left = left_by(rt, &["batch", "game"], &THREE, &[], &mut store, &NONE)?;
-    let answered = exits.iter().filter(|exit| **exit < moment).count();
-    let kept = 3usize.saturating_sub(left.entries / 2);
     assert!(rt;
-        answered <= kept && kept <= answered.saturating_add(1),
-        "moment {moment}, fill {fill}"
-    );
-    assert!(rt;
-        left.status == 0 && kept <= 3,
-        "moment {moment}, fill {fill}"
-    );
-    assert!(rt;
-        left.output.as_slice() == REPORTS[kept].as_bytes(),
+        left.status == 0 && left.output == wanted,
         "moment {moment}, fill {fill}"
     );
     assert!(rt;
         has_files(&left.cache, THREE_MADE),
         "moment {moment}, fill {fill}"
     );
-    Ok(())
+    assert!(rt;
+        store.disk(Side::A).bytes() == whole.bytes(),
+        "moment {moment}, fill {fill}"
+    );
+    Ok(kept)
 }
 
 #[test]
 fn a_run_goes_on_from_each_moment(rt: HostRuntime) -> Result<(), Fail> {
-    let exits = exits(&rt)?;
-    let store = stored(&rt, 3)?;
-    let end = now(&rt, store.disk(Side::A));
-    for moment in 1..=end {
-        for fill in FILLS {
-            goes_on(&rt, store.disk(Side::A), moment, fill, &exits)?;
+    let store = stored(&rt)?;
+    let whole = store.disk(Side::A);
+    let Some(end) = whole.clock() else {
+        panic!(rt; "no clock is told");
+    };
+    for fill in FILLS {
+        let mut before = 0;
+        for moment in 1..=end {
+            let kept = goes_on(&rt, whole, moment, fill)?;
+            assert!(rt;
+                before <= kept && kept <= before.saturating_add(1),
+                "moment {moment}, fill {fill}"
+            );
+            before = kept;
         }
+        assert!(rt; LENGTHS.len() <= before.saturating_add(1), "fill {fill}");
     }
     Ok(())
 }

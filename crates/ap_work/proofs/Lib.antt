@@ -1,3 +1,0 @@
-pub mod Chain
-pub mod Reading
-pub mod Folding
