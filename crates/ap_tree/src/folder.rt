@@ -286,17 +286,41 @@ fn read_file<R: Files>(
     if len > limit as u64 {
         return Ok(Seen::TooLarge);
     }
-    let file = match fs::open(rt, path) {
+    let mut file = match fs::open(rt, path) {
         Ok(file) => file,
         Err(error) if is_absent(&error) => return Ok(Seen::Absent),
         Err(_) => return Err(Fault::Failed),
     };
-    let mut bytes = Vec::with_capacity(alloc, len as usize + 1)?;
-    file.take(limit as u64 + 1).read_to_end(&mut bytes)?;
+    let mut bytes = vec![in alloc; 0u8; len as usize + 1]?;
+    let filled = fill(&mut file, &mut bytes)?;
+    if filled == bytes.len() {
+        // It has grown since it was looked at.
+        let most = (limit as u64 + 1).saturating_sub(filled as u64);
+        file.take(most).read_to_end(&mut bytes)?;
+    } else {
+        bytes.truncate(filled);
+    }
     if bytes.len() > limit as usize {
         return Ok(Seen::TooLarge);
     }
     Ok(Seen::Bytes(Bytes::of(bytes)))
+}
+
+/// Reads until the bytes are filled or the file is at its end, and answers how many were read.
+fn fill<R: Read>(file: &mut R, bytes: &mut [u8]) -> Result<usize, Fault> {
+    let mut filled = 0usize;
+    for _ in 0..u64::MAX {
+        if filled >= bytes.len() {
+            return Ok(filled);
+        }
+        match file.read(&mut bytes[filled..]) {
+            Ok(0) => return Ok(filled),
+            Ok(read) => filled = filled.saturating_add(read),
+            Err(error) if error.kind() == ErrorKind::Interrupted => {}
+            Err(error) => return Err(Fault::from(error)),
+        }
+    }
+    Err(Fault::Failed)
 }
 
 /// Writes a new file, or over a plain one; never through a link.
