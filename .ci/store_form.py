@@ -25,7 +25,7 @@ class BadStore(Exception):
         self.record, self.offset = record, offset
 
     def line(self):
-        return f"ap: bad store: record {self.record} offset {self.offset}\n"
+        return b"ap: bad store: record %d offset %d\n" % (self.record, self.offset)
 
 
 # ---- names
@@ -267,6 +267,8 @@ class Tables:
     def __init__(self):
         self.folders, self.sources, self.creates, self.jobs = [], {}, {}, {}
         self.things, self.numbers, self.named, self.defined = {}, {}, collections.Counter(), 0
+        # The things that live, and that nothing names.
+        self.loose = set()
 
     # -- things
 
@@ -277,14 +279,24 @@ class Tables:
         self.defined += 1
         self.things[self.defined] = thing
         self.numbers[thing] = self.defined
-        self.named.update(thing.kids)
+        self.loose.add(thing)
+        self.name(thing.kids)
 
     def drop(self, place):
         thing = self.thing(place)
         if self.named[thing]:
             raise Bad("a Drop of a thing that is named")
         del self.things[place], self.numbers[thing]
-        self.named.subtract(thing.kids)
+        self.loose.discard(thing)
+        self.unname(thing.kids)
+
+    def name(self, things):
+        self.named.update(things)
+        self.loose.difference_update(things)
+
+    def unname(self, things):
+        self.named.subtract(things)
+        self.loose.update(thing for thing in things if not self.named[thing])
 
     def thing(self, place, tag=None):
         thing = self.things.get(place)
@@ -297,15 +309,15 @@ class Tables:
     # -- rows; each row's last part is the list of the things that it names
 
     def put(self, rows, key, row):
-        self.named.update(row[-1])
+        self.name(row[-1])
         if key in rows:
-            self.named.subtract(rows[key][-1])
+            self.unname(rows[key][-1])
         rows[key] = row
 
     def remove(self, rows, key):
         if key not in rows:
             raise Bad("a removed row isn't there")
-        self.named.subtract(rows.pop(key)[-1])
+        self.unname(rows.pop(key)[-1])
 
     def put_folders(self, folders):
         if any(a[0] >= b[0] for a, b in zip(folders, folders[1:])):

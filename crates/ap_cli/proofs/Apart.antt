@@ -14,7 +14,7 @@ use Rattle.std.proofs.lemmas.Grind.{common_steps}
 use Rattle.ap_text.specs.Order.{bytes_cmp}
 use Rattle.ap_cli.specs.Layout.{conflict, closed, AreApart}
 use Rattle.ap_cli.specs.Neighbours.{has_front_next}
-use Rattle.ap_cli.specs.Sources.{Files}
+use Rattle.ap_scan.specs.Winners.{Files}
 use Rattle.ap_tree.specs.Files.{content_at, has_distinct_paths}
 use Rattle.ap_cli.proofs.Sorting.{tail_sorted}
 

@@ -4,9 +4,9 @@ use Rattle.std.specs.Prelude.{Option, Some, None, is_none, bytes_eq}
 use Rattle.std.proofs.lemmas.Slice.Eq.{bytes_eq-Decides}
 use Rattle.ap_tree.specs.Files.{content_at, has_distinct_paths}
 use Rattle.ap_tree.specs.Changes.{TellsAs, Puts, KeepsOthers}
-use Rattle.ap_cli.specs.Sources.{Files}
+use Rattle.ap_scan.specs.Winners.{Files}
 use Rattle.ap_cli.specs.Overlay.{LaidAllButOne}
-use Rattle.ap_cli.proofs.FirstAndRest.{after, after-cons}
+use Rattle.ap_engine.proofs.SliceSteps.{after, after-cons}
 
 -- each file is as it was or as it is put
 abbrev pub Between : Files → Files → Files → Type 0

@@ -4,9 +4,9 @@ use Rattle.std.specs.Prelude.{Option, Some, None, is_none, bytes_eq}
 use Rattle.std.proofs.lemmas.Slice.Eq.{bytes_eq-Decides}
 use Rattle.ap_tree.specs.Files.{content_at, has_distinct_paths}
 use Rattle.ap_tree.specs.Changes.{TellsAs, Puts}
-use Rattle.ap_cli.specs.Sources.{Files}
+use Rattle.ap_scan.specs.Winners.{Files}
 use Rattle.ap_cli.specs.Overlay.{Overlays, or_else}
-use Rattle.ap_cli.proofs.FirstAndRest.{after, after-cons}
+use Rattle.ap_engine.proofs.SliceSteps.{after, after-cons}
 
 none_from : (o : Option (List ℕ)) (rest : Bool) → (is_none o && rest) ≡ true → o ≡ None
 none_from None rest is = refl

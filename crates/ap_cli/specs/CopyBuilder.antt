@@ -12,11 +12,13 @@ use Rattle.ap_builder.specs.declared.work.CreateAnswer.TheVariants.{Jobs}
 use Rattle.ap_builder.specs.declared.work.JobInput.{JobInput}
 use Rattle.ap_builder.specs.declared.work.Outcome.{Outcome}
 use Rattle.ap_builder.specs.declared.work.Outcome.TheVariants.{Done}
-use Rattle.ap_cli.specs.Project.{copy_name}
 
--- one builder, for every path
+abbrev pub copy_name : List ℕ
+copy_name = codes "copy"
+
+-- one builder, for texts, images and sounds
 abbrev pub copy_offers : List Offer
-copy_offers = record { name = copy_name; patterns = codes "*" ∷ []; version = 1 } ∷ []
+copy_offers = record { name = copy_name; patterns = codes "*.txt" ∷ codes "*.png" ∷ codes "*.wav" ∷ []; version = 1 } ∷ []
 
 abbrev pub copy_declares : List ℕ → List ℕ → List ℕ → List Target
 copy_declares builder path bytes = []

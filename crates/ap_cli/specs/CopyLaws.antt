@@ -14,12 +14,26 @@ use Rattle.ap_builder.specs.Paths.{IsShort}
 use Rattle.ap_builder.specs.Answers.{DeclaresWell, CreatesFor, MakesWell, IsJobBy}
 use Rattle.ap_cli.specs.CopyBuilder.{copy_offers, copy_declares, copy_creates, copy_makes, copy_job, version_in_lem}
 
-star_is_ascii : (i : ℕ) → slice_index (codes "*") i < 128
-star_is_ascii zero = lit< tt
-star_is_ascii (suc i) = lit< tt
+-- five bytes of ASCII are a text
+five_are_ascii : (a b c d e : ℕ) → a < 128 → b < 128 → c < 128 → d < 128 → e < 128 → (i : ℕ) → slice_index (a ∷ b ∷ c ∷ d ∷ e ∷ []) i < 128
+five_are_ascii a b c d e ha hb hc hd he zero = ha
+five_are_ascii a b c d e ha hb hc hd he (suc zero) = hb
+five_are_ascii a b c d e ha hb hc hd he (suc (suc zero)) = hc
+five_are_ascii a b c d e ha hb hc hd he (suc (suc (suc zero))) = hd
+five_are_ascii a b c d e ha hb hc hd he (suc (suc (suc (suc zero)))) = he
+five_are_ascii a b c d e ha hb hc hd he (suc (suc (suc (suc (suc i))))) = lit< tt
 
 pub copy_patterns : AllByRecursion HasPatterns copy_offers
-copy_patterns = ((record { some = λ e. cc; short = lit≤ tt; text = IsUtf8-from_ascii (codes "*") star_is_ascii }, tt), tt)
+copy_patterns = (
+  (
+    record { some = λ e. cc; short = lit≤ tt; text = IsUtf8-from_ascii (codes "*.txt") (five_are_ascii 42 46 116 120 116 (lit< tt) (lit< tt) (lit< tt) (lit< tt) (lit< tt)) },
+    (
+      record { some = λ e. cc; short = lit≤ tt; text = IsUtf8-from_ascii (codes "*.png") (five_are_ascii 42 46 112 110 103 (lit< tt) (lit< tt) (lit< tt) (lit< tt) (lit< tt)) },
+      (record { some = λ e. cc; short = lit≤ tt; text = IsUtf8-from_ascii (codes "*.wav") (five_are_ascii 42 46 119 97 118 (lit< tt) (lit< tt) (lit< tt) (lit< tt) (lit< tt)) }, tt),
+    ),
+  ),
+  tt,
+)
 
 pub copy_declared : (builder path bytes : List ℕ) → DeclaresWell bytes (copy_declares builder path bytes)
 copy_declared builder path bytes = record { each = tt; short = λ _. lit< tt }

@@ -1,8 +1,8 @@
 -- A store that no run has written to is sound.
-use Rattle.std.specs.Prelude.{◌≡◌, ◌&&◌, not, ℕ, List, [], Ok, Err, cond}
-use Rattle.std.proofs.Common.{ap, refl, ◌∙◌}
+use Rattle.std.specs.Prelude.{◌≡◌, ◌&&◌, not, ℕ, List, [], Err, cond}
+use Rattle.std.proofs.Common.{ap}
 use Rattle.ap_text.proofs.Members.{Contains-none}
-use Rattle.ap_journal.specs.Records.{standing, is_some_record, is_marked, has_bad_header}
+use Rattle.ap_journal.specs.Records.{standing, is_some_record, is_marked}
 use Rattle.ap_builder.specs.Meanings.{Meanings}
 use Rattle.ap_db.specs.Stored.{nothing_stored, after_payloads, stored_in}
 use Rattle.ap_engine.specs.Sound.{IsSound}

@@ -7,7 +7,7 @@ use Rattle.ap_content.specs.Things.{Thing, thing, Kids, no_kids, kid}
 use Rattle.ap_rows.specs.Inputs.{PlainProduct}
 use Rattle.ap_rows.specs.Forms.{products_in}
 use Rattle.ap_db.specs.Tables.{PlainOutcome, done, failed, PlainResult, processed, on_cycle, lacks, after_failure, PlainTables}
-use Rattle.ap_cli.specs.Sources.{Files, in_folder}
+use Rattle.ap_scan.specs.Winners.{Files, in_folder}
 
 -- the path of a name in a folder, which may be none
 abbrev pub beside : List ℕ → List ℕ → List ℕ

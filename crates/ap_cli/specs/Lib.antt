@@ -1,9 +1,8 @@
-pub mod Sources
 pub mod Words
-pub mod Listing
 pub mod Steps
 pub mod Project
 pub mod Layout
+pub mod ProductIds
 pub mod Neighbours
 pub mod Overlay
 pub mod Output
@@ -14,5 +13,6 @@ pub mod FirstStore
 pub mod Unbuilt
 pub mod Working
 pub mod Refusals
+pub mod Causes
 pub mod CopyBuilder
 pub mod CopyLaws

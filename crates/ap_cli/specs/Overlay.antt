@@ -1,7 +1,7 @@
 -- What a cache has once files were written into it.
 use Rattle.std.specs.Prelude.{◌≡◌, ◌≢◌, ◌⊎◌, ℕ, List, Option, Some, None}
 use Rattle.ap_tree.specs.Files.{content_at}
-use Rattle.ap_cli.specs.Sources.{Files}
+use Rattle.ap_scan.specs.Winners.{Files}
 
 -- the first, or else the second
 abbrev pub or_else : {X : Type 0} → Option X → Option X → Option X

@@ -1,40 +1,56 @@
--- The configuration and the winners of a run over one folder.
-use Rattle.std.specs.Prelude.{◌≡◌, ℕ, List, [], ◌∷◌, map, codes, bytes_eq, if◌then◌else◌, Option, Some, None}
-use Rattle.ap_text.specs.declared.seen.Seen.TheVariants.{Bytes}
+-- The configuration and the scan of a run.
+use Rattle.std.specs.Prelude.{◌≡◌, ◌≤◌, ℕ, List, length, Result, Ok, Err}
+use Rattle.ap_text.specs.declared.seen.Seen.{Seen}
+use Rattle.ap_text.specs.declared.seen.Seen.TheVariants.{Bytes, Absent, TooLarge}
+use Rattle.ap_text.specs.declared.seen.Which.{Which}
+use Rattle.ap_tree.specs.Files.{content_at, seen_up_to}
+use Rattle.ap_config.specs.Configuration.{config_read}
 use Rattle.ap_config.specs.declared.config.Config.{Config}
+use Rattle.ap_config.specs.declared.fault.ConfigFault.{ConfigFault}
 use Rattle.ap_config.specs.declared.offer.Offer.{Offer}
+use Rattle.ap_scan.specs.Limits.{bytes_of, Passes}
+use Rattle.ap_scan.specs.Winners.{Files, AreWinners, AreHidden, AreOdd}
+use Rattle.ap_scan.specs.declared.results.Scan.{Scan}
 use Rattle.ap_scan.specs.declared.results.Winner.{Winner}
-use Rattle.ap_cli.specs.declared.source.Source.{Source}
-use Rattle.ap_cli.specs.Sources.{Files, AreSources}
+use Rattle.ap_cli.specs.declared.other_files.OtherFiles.{OtherFiles}
+use Rattle.ap_cli.specs.declared.unconfigured.Unconfigured.{Unconfigured}
+use Rattle.ap_cli.specs.declared.unconfigured.Unconfigured.TheVariants.{NoFile, LargeFile, Refused}
 
-abbrev pub copy_name : List ℕ
-copy_name = codes "copy"
+abbrev pub or_refused : Result Config ConfigFault → Result Config Unconfigured
+or_refused (Ok config) = Ok config
+or_refused (Err fault) = Err (Refused fault)
 
-abbrev pub pc_name : List ℕ
-pc_name = codes "pc"
+-- what a file says as a configuration, or why it says none
+abbrev pub config_in : List Offer → Seen → Result Config Unconfigured
+config_in offers (Bytes text) = or_refused (config_read text offers)
+config_in offers Absent = Err NoFile
+config_in offers TooLarge = Err LargeFile
 
--- the version of the first offer of this name
-abbrev pub version_of : List Offer → List ℕ → Option ℕ
-version_of [] name = None
-version_of (offer ∷ offers) name = if bytes_eq offer.name name then Some offer.version else version_of offers name
+-- what the file at a path says
+abbrev pub config_at : List Offer → List ℕ → Files → Result Config Unconfigured
+config_at offers path files = config_in offers (seen_up_to 4194304 (content_at files path))
 
--- one folder, all files of which `copy` of a version takes, for the platform `pc`
-abbrev pub copy_config : List ℕ → ℕ → Config
-copy_config folder version = record {
-  platforms = pc_name ∷ [];
-  folders = record { order = 0; path = folder; exclude = [] } ∷ [];
-  builders = record { name = copy_name; patterns = codes "*" ∷ []; version = version } ∷ [];
-}
+-- the configuration that the file at the path says, and its winners, hidden files and odd names, which pass no limit
+pub record IsProject (offers : List Offer) (path : List ℕ) (files : Files) (config : Config) (scan : Scan) : Type 0 where
+  pub configured : config_at offers path files ≡ Ok config
+  pub winners : AreWinners config files scan.winners
+  pub hidden : AreHidden config files scan.hidden
+  pub odd : AreOdd config files scan.odd
+  pub few : length scan.winners ≤ 20000
+  pub small : bytes_of scan.winners ≤ 268435456
 
--- a source of that folder stands for its path
-abbrev pub winner_of : Source → Winner
-winner_of source = record { path = source.path; order = 0; name = source.name; seen = Bytes source.bytes }
+-- the file at the path says a configuration whose winners pass no limit
+abbrev pub HasProject : List Offer → List ℕ → Files → Type 0
+HasProject offers path files = (config : Config) × (scan : Scan) × IsProject offers path files config scan
 
--- the configuration of a folder, where `copy` is offered, and its files
-pub record IsProject (offers : List Offer) (folder : List ℕ) (files : Files) (config : Config) (winners : List Winner) : Type 0 where
-  pub version : ℕ
-  pub offered : version_of offers copy_name ≡ Some version
-  pub configured : config ≡ copy_config folder version
-  pub found : List Source
-  pub are : AreSources folder files found
-  pub stand : winners ≡ map winner_of found
+-- the configuration's winners pass this limit first, and this is what passes it
+pub record IsOver (offers : List Offer) (path : List ℕ) (files : Files) (which : Which) (count : ℕ) : Type 0 where
+  pub config : Config
+  pub configured : config_at offers path files ≡ Ok config
+  pub winners : List Winner
+  pub are : AreWinners config files winners
+  pub passes : Passes winners which count
+
+-- the files that stand for no path
+abbrev pub others_of : Scan → OtherFiles
+others_of scan = record { hidden = scan.hidden; odd = scan.odd }

@@ -1,11 +1,8 @@
 -- What a run does to its store.
-use Rattle.std.specs.Prelude.{◌≡◌, ◌<◌, ◌+◌, ◌^◌, min, ℕ, List, Option, Ok, IfSome}
-use Rattle.ap_db.specs.Opened.{IsBadStore}
+use Rattle.std.specs.Prelude.{◌≡◌, ◌^◌, min, ℕ, List, Option, Ok, IfSome}
 use Rattle.ap_db.specs.Stored.{Stored, stored_in}
 use Rattle.ap_db.specs.Tables.{PlainTables}
 use Rattle.ap_engine.specs.Sound.{HasTables}
-use Rattle.ap_cli.specs.declared.stop.Stop.{Stop}
-use Rattle.ap_cli.specs.declared.stop.Stop.TheVariants.{Usage, Tree, Cache, Disk, Output, Memory, BadStore, Full, Unbuilt}
 
 -- how many bytes a store may have whose disks have these rooms
 abbrev pub limit_of : ℕ → ℕ → ℕ
@@ -19,15 +16,3 @@ IsGood file = (stored : Stored) × (stored_in file ≡ Ok stored)
 pub record HasNow {D : Type 0} (seen : D → Option (List ℕ)) (may_leave : D → List ℕ → Type 0) (store : D × D) (tables : PlainTables) : Type 0 where
   pub read : IfSome (seen store.0) (HasTables tables)
   pub left : (c : List ℕ) → may_leave store.0 c → IfSome (seen store.0) (λ _. HasTables tables c)
-
--- why the store keeps a run from going on: its first bad record, or a record that passes the limit
-abbrev pub IsStoreCause : Option (List ℕ) → ℕ → Stop → Type 0
-IsStoreCause before limit (BadStore place offset) = IfSome before (IsBadStore place offset)
-IsStoreCause before limit (Full length wanted) = limit < length + wanted
-IsStoreCause before limit Usage = Unit {0}
-IsStoreCause before limit Tree = Unit {0}
-IsStoreCause before limit Cache = Unit {0}
-IsStoreCause before limit Disk = Unit {0}
-IsStoreCause before limit Output = Unit {0}
-IsStoreCause before limit Memory = Unit {0}
-IsStoreCause before limit Unbuilt = Unit {0}

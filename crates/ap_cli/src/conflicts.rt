@@ -1,8 +1,9 @@
 ghost use Rattle.std.specs.Prelude.{◌≡◌, ◌++◌, ◌∷◌, [], nat_eq, map, false, IfOk, IsTrue};
 ghost use Rattle.ap_cli.specs.Layout.{AreApart, closed};
 ghost use Rattle.ap_cli.specs.Neighbours.{has_front_next, front_of_next};
+ghost use Rattle.ap_cli.specs.ProductIds.{AreDistinct, plain_id};
 
-use crate::layout::CacheFile;
+use crate::layout::{CacheFile, ProductId};
 use ap_text::{Bytes, OutOfMemory};
 use std::alloc::Global;
 
@@ -59,4 +60,13 @@ fn is_front_of_next(first: &Bytes, after: &[Bytes]) -> bool
         [next, ..] => next.as_slice().starts_with(first.as_slice()),
         [] => false,
     }
+}
+
+/// Whether no two ids are the same. It sorts them.
+pub(crate) fn are_distinct_ids(mut ids: Vec<ProductId<'_>>) -> bool
+    ensures distinct { IsTrue result → AreDistinct (map plain_id ids.entry.items) }
+    ensures shared { result ≡ false → ¬ AreDistinct (map plain_id ids.entry.items) }
+{
+    ids.sort_unstable();
+    ids.is_sorted_by(|a, b| a.cmp(b).is_lt())
 }

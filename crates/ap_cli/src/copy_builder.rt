@@ -44,7 +44,11 @@ impl Builders for CopyBuilder {
     ghost made = { copy_made };
 
     fn offers(&self, alloc: Global) -> Result<Vec<Offer>, OutOfMemory> {
-        let patterns = vec![in alloc; Bytes::of(b"*".to_vec(alloc)?)]?;
+        let patterns = vec![in alloc;
+            Bytes::of(b"*.txt".to_vec(alloc)?),
+            Bytes::of(b"*.png".to_vec(alloc)?),
+            Bytes::of(b"*.wav".to_vec(alloc)?),
+        ]?;
         let offer = Offer {
             name: names::copy(alloc)?,
             patterns: List::of(patterns),

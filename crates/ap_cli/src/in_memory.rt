@@ -26,13 +26,13 @@ pub fn run_in_memory<B: Builders + Sync>(
     bench: &mut Bench<B::Pass>,
     out: &mut SureMemorySink,
 ) -> u8
-    ensures others { (result ≡ 0) ⊎ (result ≡ 2) ⊎ (result ≡ 7) ⊎ (result ≡ 8) ⊎ (result ≡ 9) ⊎ (result ≡ 11) ⊎ (result ≡ 13) }
-    ensures usage { result ≡ 2 → (folder : List ℕ) → ¬ IsBatch words.now folder }
-    ensures batch { result ≢ 2 → result ≢ 8 → (folder : List ℕ) × IsBatch words.now folder }
-    ensures room { result ≡ 7 → IfSome (⟦<SureMemoryDisk as Disk>⟧.seen store.old.0) (λ file. IsSound (meanings_of B.declares B.creates B.makes) file → OnBatch words.now (⟦<SureMemoryTree as Tree>⟧.files tree.old) (λ folder files.
-        Ran ⟦<SureMemoryDisk as Disk>⟧.seen ⟦<SureMemoryDisk as Disk>⟧.may_leave ⟦<SureMemoryDisk as Disk>⟧.clock ⟦<SureMemoryDisk as Disk>⟧.left_at ⟦<SureMemoryDisk as Disk>⟧.room ⟦<SureMemoryDisk as Disk>⟧.faults store.old store.new (meanings_of B.declares B.creates B.makes) (B.offers builders.now) folder bench.old bench.new
+    ensures others { (result ≡ 0) ⊎ (result ≡ 1) ⊎ (result ≡ 2) ⊎ (result ≡ 3) ⊎ (result ≡ 7) ⊎ (result ≡ 8) ⊎ (result ≡ 9) ⊎ (result ≡ 10) ⊎ (result ≡ 11) ⊎ (result ≡ 13) }
+    ensures usage { result ≡ 2 → (path : List ℕ) → ¬ IsBatch words.now path }
+    ensures batch { result ≢ 2 → result ≢ 8 → (path : List ℕ) × IsBatch words.now path }
+    ensures room { result ≡ 7 → IfSome (⟦<SureMemoryDisk as Disk>⟧.seen store.old.0) (λ file. IsSound (meanings_of B.declares B.creates B.makes) file → OnBatch words.now (⟦<SureMemoryTree as Tree>⟧.files tree.old) (λ path files.
+        Ran ⟦<SureMemoryDisk as Disk>⟧.seen ⟦<SureMemoryDisk as Disk>⟧.may_leave ⟦<SureMemoryDisk as Disk>⟧.clock ⟦<SureMemoryDisk as Disk>⟧.left_at ⟦<SureMemoryDisk as Disk>⟧.room ⟦<SureMemoryDisk as Disk>⟧.faults store.old store.new (meanings_of B.declares B.creates B.makes) (B.offers builders.now) path bench.old bench.new
         (λ put. TellsAs (⟦<SureMemoryCache as CacheDir>⟧.files cache.old) (⟦<SureMemoryCache as CacheDir>⟧.files cache.new) (Overlays put))
-        (λ entries counts. TakesShort (⟦<SureMemorySink as Sink>⟧.room out.old) (⟦<SureMemorySink as Sink>⟧.written out.old) (⟦<SureMemorySink as Sink>⟧.written out.new) (report_lem entries counts)) files file)) }
+        (λ entries others counts. TakesShort (⟦<SureMemorySink as Sink>⟧.room out.old) (⟦<SureMemorySink as Sink>⟧.written out.old) (⟦<SureMemorySink as Sink>⟧.written out.new) (report_lem entries others counts)) files file)) }
 {
     run(alloc, words, tree, cache, store, builders, bench, out)
 }

@@ -2,7 +2,8 @@ ghost use Rattle.std.specs.Prelude.{◌≡◌, ◌++◌, IfOk};
 ghost use Rattle.ap_text.specs.PathRules.{parent_lem};
 ghost use Rattle.ap_rows.specs.Inputs.{PlainProduct};
 ghost use Rattle.ap_cli.specs.Layout.{beside, cache_file};
-ghost use Rattle.ap_cli.specs.Sources.{in_folder};
+ghost use Rattle.ap_cli.specs.ProductIds.{plain_id, product_id};
+ghost use Rattle.ap_scan.specs.Winners.{in_folder};
 
 use ap_text::{Bytes, FileName, JobId, OutOfMemory};
 use std::alloc::Global;
@@ -51,6 +52,25 @@ pub(crate) fn cache_file<'a>(
         path: Bytes::of(path),
         bytes,
     })
+}
+
+/// The id of a job's product, borrowed from the job's row.
+#[derive(PartialEq, Eq, PartialOrd, Ord, Drop)]
+pub(crate) struct ProductId<'a> {
+    source: &'a [u8],
+    platform: &'a [u8],
+    sub: u32,
+}
+
+/// The id of a job's product of this sub id.
+pub(crate) fn product_id(id: &JobId, sub: u32) -> ProductId<'_>
+    ensures { (product : PlainProduct) → product.sub ≡ sub → plain_id result ≡ product_id id.now product }
+{
+    ProductId {
+        source: id.source.as_slice(),
+        platform: id.platform.as_slice(),
+        sub,
+    }
 }
 
 /// The path in the cache of a job's product of this name.

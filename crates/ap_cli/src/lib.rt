@@ -8,20 +8,21 @@ mod conflicts;
 mod copy_builder;
 mod declaring;
 mod delivery;
-mod gather;
+mod ending;
 mod in_memory;
 mod lay;
 mod layout;
 mod names;
+mod other_files;
 mod output;
 mod project;
 mod report;
 mod settling;
-mod source;
 mod stop;
 #[cfg(test)]
 mod tests;
 mod top;
+mod unconfigured;
 mod words;
 
 pub use copy_builder::{CopyBuilder, CopyPass};

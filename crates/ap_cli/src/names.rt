@@ -1,8 +1,8 @@
-//! The names that this part of the path knows.
+//! The names that the builder `copy` gives.
 ghost use Rattle.std.specs.Prelude.{◌≡◌, IfOk};
-ghost use Rattle.ap_cli.specs.Project.{copy_name, pc_name};
+ghost use Rattle.ap_cli.specs.CopyBuilder.{copy_name};
 
-use ap_text::{Name, NameFault, OutOfMemory, Platform};
+use ap_text::{Name, NameFault, OutOfMemory};
 use std::alloc::Global;
 
 /// The builder `copy`, which is the key and the type of its jobs and products too.
@@ -11,17 +11,6 @@ pub(crate) fn copy(alloc: Global) -> Result<Name, OutOfMemory>
 {
     match Name::read(alloc, b"copy") {
         Ok(name) => Ok(name),
-        Err(NameFault::OutOfMemory) => Err(OutOfMemory),
-        Err(NameFault::Bad) => unreachable!(),
-    }
-}
-
-/// The platform that all products are made for.
-pub(crate) fn pc(alloc: Global) -> Result<Platform, OutOfMemory>
-    ensures { IfOk result (λ platform. platform ≡ pc_name) }
-{
-    match Platform::read(alloc, b"pc") {
-        Ok(platform) => Ok(platform),
         Err(NameFault::OutOfMemory) => Err(OutOfMemory),
         Err(NameFault::Bad) => unreachable!(),
     }

@@ -7,27 +7,27 @@ use crate::stop::Stop;
 use ap_text::{PathFault, RelPath};
 use std::alloc::Global;
 
-/// The folder that a command line names.
+/// The path of the configuration that a command line names.
 pub(crate) fn read_words(alloc: Global, words: &[String]) -> Result<RelPath, Stop>
-    ensures batch { IfOk result (λ folder. IsBatch words.now folder) }
-    ensures usage { IfErr result (λ stop. stop ≡ Usage → (folder : _) → ¬ IsBatch words.now folder) }
+    ensures batch { IfOk result (λ config. IsBatch words.now config) }
+    ensures usage { IfErr result (λ stop. stop ≡ Usage → (config : _) → ¬ IsBatch words.now config) }
     ensures only { IfErr result (λ stop. (stop ≡ Usage) ⊎ (stop ≡ Memory)) }
 {
     match words {
-        [command, folder] => read_batch(alloc, command.as_str(), folder.as_str()),
+        [command, config] => read_batch(alloc, command.as_str(), config.as_str()),
         _ => Err(Stop::Usage),
     }
 }
 
-fn read_batch(alloc: Global, command: &str, folder: &str) -> Result<RelPath, Stop>
-    ensures batch { IfOk result (λ path. (command.now ≡ codes "batch") × (path ≡ folder.now) × IsRelPath folder.now) }
-    ensures usage { IfErr result (λ stop. stop ≡ Usage → command.now ≡ codes "batch" → ¬ IsRelPath folder.now) }
+fn read_batch(alloc: Global, command: &str, config: &str) -> Result<RelPath, Stop>
+    ensures batch { IfOk result (λ path. (command.now ≡ codes "batch") × (path ≡ config.now) × IsRelPath config.now) }
+    ensures usage { IfErr result (λ stop. stop ≡ Usage → command.now ≡ codes "batch" → ¬ IsRelPath config.now) }
     ensures only { IfErr result (λ stop. (stop ≡ Usage) ⊎ (stop ≡ Memory)) }
 {
     if command != "batch" {
         return Err(Stop::Usage);
     }
-    match RelPath::read(alloc, folder.as_bytes()) {
+    match RelPath::read(alloc, config.as_bytes()) {
         Ok(path) => Ok(path),
         Err(PathFault::OutOfMemory) => Err(Stop::Memory),
         Err(_) => Err(Stop::Usage),

@@ -1,9 +1,8 @@
--- What the answers of a source's builders come to, and when that is one job that depends on nothing.
+-- What the answers of a source's builders come to, and when that is jobs that depend on nothing.
 use Rattle.std.proofs.Common.{◌≡◌, ℕ, Bool, true, false, cond, List, [], ◌∷◌, ◌++◌, map, Option, Some, None, Bor, refl, sym, ◌∙◌, ap, subst}
 use Rattle.std.specs.List.{AllByRecursion, filter, flat_map, list_any}
 use Rattle.ap_config.specs.declared.config.Config.{Config}
 use Rattle.ap_config.specs.declared.offer.Offer.{Offer}
-use Rattle.ap_rows.specs.declared.job.DependencyRow.{DependencyRow}
 use Rattle.ap_rows.specs.declared.job.JobDesc.{JobDesc}
 use Rattle.ap_rows.specs.declared.job.Created.{Created}
 use Rattle.ap_rows.specs.declared.job.Created.TheVariants.{Jobs as CreatedJobs, Builder, DuplicateKey}
@@ -14,8 +13,9 @@ use Rattle.ap_builder.specs.Meanings.{Meanings}
 use Rattle.ap_builder.specs.Views.{create_view}
 use Rattle.ap_sources.specs.Sources.{matching}
 use Rattle.ap_create.specs.Creation.{created, failed_by, first_failure, same_slot, first_duplicate, jobs_answered, unless_refused}
-use Rattle.ap_engine.specs.Worlds.{IsOneFreeJob}
-use Rattle.ap_engine.specs.Asked.{versions_of, plain_from, answers_of, joined, all_joined, if_free, only_free_job}
+use Rattle.ap_engine.specs.Worlds.{AreFreeJobs}
+use Rattle.ap_engine.specs.Asked.{versions_of, plain_from, answers_of, joined, all_joined, all_free, all_apart}
+use Rattle.ap_engine.proofs.JobLists.{each_is_free, all_are_free, none_refused, apart_unrefused}
 
 -- what a builder sees, field by field
 pub view_is : (config : Config) (path bytes : List ℕ) (view : CreateInput) → view.builders ≡ versions_of (matching config path) → view.platforms ≡ config.platforms → view.path ≡ path → view.bytes ≡ bytes → view.reached ≡ []
@@ -74,18 +74,7 @@ pub joined_as : (creates : List ℕ → CreateInput → CreateAnswer) (view seen
     → all_joined (answers_of creates view offers) ≡ came → all_joined (answers_of creates seen asked) ≡ came
 joined_as creates view seen offers asked came v o e = sym (λ i. all_joined (answers_of creates (v i) (o i))) ∙ e
 
--- ---- one free job
-
-free_where : (job one : JobDesc) (deps : List DependencyRow) → if_free job deps ≡ Some one → (job ≡ one) × (deps ≡ [])
-free_where job one [] e = let is : job ≡ one = cc e in (is, refl)
-free_where job one (dep ∷ deps) e = absurd (cc e)
-
-one_where : (jobs : List JobDesc) (one : JobDesc) → only_free_job jobs ≡ Some one → (jobs ≡ one ∷ []) × (one.deps ≡ [])
-one_where [] one e = absurd (cc e)
-one_where (job ∷ []) one e =
-    let free = free_where job one job.deps e in
-    (ap (λ job. job ∷ []) free.0, ap (λ (job : JobDesc). job.deps) (sym free.0) ∙ free.1)
-one_where (job ∷ more ∷ jobs) one e = absurd (cc e)
+-- ---- free jobs
 
 no_duplicate_jobs : (earlier jobs : List JobDesc) (came : Created) → first_duplicate earlier jobs ≡ Some came → IsNoJobs came
 no_duplicate_jobs earlier [] came e = absurd (cc e)
@@ -95,19 +84,12 @@ no_duplicate_jobs earlier (job ∷ jobs) came e = by_case (list_any (same_slot j
     by_case true is more = λ jobs e. let same : DuplicateKey job.key job.platform ≡ came = cc is in cc (same, e)
     by_case false is more = more is
 
-none_free : (jobs : List JobDesc) → only_free_job jobs ≡ None → ¬ IsOneFreeJob (unless_refused None (first_duplicate [] jobs) jobs)
-none_free [] e one = let is : CreatedJobs [] ≡ CreatedJobs (one.job ∷ []) = one.one in cc is
-none_free (job ∷ []) e one =
-    let is : CreatedJobs (job ∷ []) ≡ CreatedJobs (one.job ∷ []) = one.one in
-    let same : job ≡ one.job = cc is in
-    let free : job.deps ≡ [] = ap (λ (job : JobDesc). job.deps) same ∙ one.free in
-    let none : Some job ≡ None = ap (if_free job) (sym free) ∙ e in
-    cc none
-none_free (job ∷ more ∷ jobs) e one = by_case (first_duplicate [] (job ∷ more ∷ jobs)) refl one.one
+others_refused : (jobs : List JobDesc) → (all_free jobs ≡ true → all_apart jobs ≡ true → ⊥) → ¬ AreFreeJobs (unless_refused None (first_duplicate [] jobs) jobs)
+others_refused jobs refused free = by_case (first_duplicate [] jobs) refl free.are
   where
-    by_case : (d : Option Created) → first_duplicate [] (job ∷ more ∷ jobs) ≡ d → unless_refused None d (job ∷ more ∷ jobs) ≡ CreatedJobs (one.job ∷ []) → ⊥
-    by_case None f is = cc is
-    by_case (Some came) f is = no_duplicate_jobs [] (job ∷ more ∷ jobs) came f (one.job ∷ []) is
+    by_case : (d : Option Created) → first_duplicate [] jobs ≡ d → unless_refused None d jobs ≡ CreatedJobs free.jobs → ⊥
+    by_case None f is = let same : jobs ≡ free.jobs = cc is in refused (ap all_free same ∙ all_are_free free.jobs free.free) (apart_unrefused jobs f)
+    by_case (Some came) f is = no_duplicate_jobs [] jobs came f free.jobs is
 
 module _ (builders : Meanings) (config : Config) (path bytes : List ℕ) where
   abbrev joined_here : Option (List JobDesc)
@@ -118,18 +100,16 @@ module _ (builders : Meanings) (config : Config) (path bytes : List ℕ) where
       let given = (agree builders (create_view (plain_from config path bytes) bytes) (matching config path)).gives jobs e in
       λ i. unless_refused (given.0 i) (first_duplicate [] (given.1 i)) (given.1 i)
 
-  pub one_created : (jobs : List JobDesc) (job : JobDesc) → joined_here ≡ Some jobs → only_free_job jobs ≡ Some job
-      → (created builders (plain_from config path bytes) ≡ CreatedJobs (job ∷ [])) × (job.deps ≡ [])
-  one_created jobs job e only =
-      let one = one_where jobs job only in
-      (came_to jobs e ∙ ap (λ jobs. unless_refused None (first_duplicate [] jobs) jobs) one.0, one.1)
+  pub jobs_created : (jobs : List JobDesc) → joined_here ≡ Some jobs → all_free jobs ≡ true → all_apart jobs ≡ true
+      → (created builders (plain_from config path bytes) ≡ CreatedJobs jobs) × AllByRecursion (λ job. job.deps ≡ []) jobs
+  jobs_created jobs e free apart = (came_to jobs e ∙ ap (λ duplicate. unless_refused None duplicate jobs) (none_refused jobs apart), each_is_free jobs free)
 
-  pub none_created : joined_here ≡ None → ¬ IsOneFreeJob (created builders (plain_from config path bytes))
-  none_created e one =
+  pub none_created : joined_here ≡ None → ¬ AreFreeJobs (created builders (plain_from config path bytes))
+  none_created e free =
       let came = (agree builders (create_view (plain_from config path bytes) bytes) (matching config path)).fails e in
       let jobs = flat_map (λ answer. jobs_answered answer.1) (answers_by builders (create_view (plain_from config path bytes) bytes) (matching config path)) in
       let is : created builders (plain_from config path bytes) ≡ came.0 = ap (λ failure. unless_refused failure (first_duplicate [] jobs) jobs) came.1 in
-      came.2 (one.job ∷ []) (sym is ∙ one.one)
+      came.2 free.jobs (sym is ∙ free.are)
 
-  pub others_created : (jobs : List JobDesc) → joined_here ≡ Some jobs → only_free_job jobs ≡ None → ¬ IsOneFreeJob (created builders (plain_from config path bytes))
-  others_created jobs e only one = none_free jobs only (subst IsOneFreeJob (came_to jobs e) one)
+  pub others_created : (jobs : List JobDesc) → joined_here ≡ Some jobs → (all_free jobs ≡ true → all_apart jobs ≡ true → ⊥) → ¬ AreFreeJobs (created builders (plain_from config path bytes))
+  others_created jobs e refused free = others_refused jobs refused (subst AreFreeJobs (came_to jobs e) free)

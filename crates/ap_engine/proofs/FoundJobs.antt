@@ -1,10 +1,11 @@
--- The jobs of recorded creations are those of the project, where each source has one that depends on nothing.
+-- The jobs of recorded creations are those of the project, where none depends on anything.
 use Rattle.std.proofs.Common.{◌≡◌, ◌++◌, ℕ, Bool, true, false, not, cond, List, [], ◌∷◌, length, map, All, Contains, Option, Some, None, refl, sym, ◌∙◌, ap, subst, arith, ⊎_elim}
 use Rattle.std.specs.Prelude.{bytes_eq, find, option_and_then}
 use Rattle.std.specs.List.{filter, flat_map, AllByRecursion}
 use Rattle.std.specs.Cmp.Lexicographic.{nat_list_cmp_total}
 use Rattle.std.proofs.lemmas.Slice.Eq.{bytes_eq-Decides}
-use Rattle.ap_text.specs.Order.{bytes_cmp}
+use Rattle.ap_text.specs.Order.{bytes_cmp, in_order}
+use Rattle.ap_text.specs.JobOrder.{job_cmp}
 use Rattle.ap_text.specs.PathRules.{IsRelPath}
 use Rattle.ap_text.proofs.Members.{Contains-none, Contains-cons_cases, Contains-head, Contains-tail_of, Contains-map, AllByRecursion-at}
 use Rattle.ap_content.specs.Things.{bytes_thing}
@@ -12,7 +13,6 @@ use Rattle.ap_content.specs.Entries.{Entry}
 use Rattle.ap_content.proofs.Members.{Contains-filtered}
 use Rattle.ap_config.specs.declared.config.Config.{Config}
 use Rattle.ap_scan.specs.declared.results.Winner.{Winner}
-use Rattle.ap_rows.specs.declared.job.DependencyRow.{DependencyRow}
 use Rattle.ap_rows.specs.declared.job.JobDesc.{JobDesc}
 use Rattle.ap_rows.specs.declared.job.Created.{Created}
 use Rattle.ap_rows.specs.declared.job.Created.TheVariants.{Jobs, Builder, DuplicateKey, TooLarge}
@@ -33,42 +33,44 @@ use Rattle.ap_db.specs.Tables.{PlainTables}
 use Rattle.ap_sources.specs.Sources.{matching, is_some_item, sources, seen_of, seen_at, bytes_seen, content_at_path, reached}
 use Rattle.ap_create.specs.Creation.{create_from, created, all_jobs}
 use Rattle.ap_engine.specs.declared.source.Source.{Source}
-use Rattle.ap_engine.specs.declared.processing.SourceJob.{SourceJob}
+use Rattle.ap_engine.specs.declared.jobs.SourceJob.{SourceJob}
 use Rattle.ap_engine.specs.Verdict.{made_from}
 use Rattle.ap_engine.specs.Settled.{job_row}
 use Rattle.ap_engine.specs.Need.{job_stands}
 use Rattle.ap_engine.specs.Changes.{put_of, job_changes}
-use Rattle.ap_engine.specs.Worlds.{AreQuiet, IsOneFreeJob, AreFree, AreJobInputs}
+use Rattle.ap_engine.specs.Worlds.{AreQuiet, AreFreeJobs, AreFree, AreJobInputs}
 use Rattle.ap_engine.specs.Ledgers.{IsBeside, IsHeld}
 use Rattle.ap_engine.specs.Interned.{IsSourceOf}
 use Rattle.ap_engine.specs.Recorded.{IsRecorded, AreRecorded, AreThere, open_jobs}
-use Rattle.ap_engine.specs.NeededJobs.{free_job_in, job_recorded, job_from, IsTypedJob, IsFoundIn, made_of, id_from, IsJobOf, stands_in, needed_in, row_made, puts_made, work_of}
-use Rattle.ap_engine.specs.Asked.{if_free}
+use Rattle.ap_engine.specs.NeededJobs.{free_jobs_in, jobs_recorded, job_from, by_id, put_all, IsTypedJob, AreFoundIn, AreAllFoundIn, made_of, id_from, IsJobOf, stands_in, needed_in, row_made, puts_made, work_of}
+use Rattle.ap_engine.specs.Asked.{all_free, if_free}
 use Rattle.ap_engine.proofs.Needs.{found_both}
 use Rattle.ap_engine.proofs.LookUps.{none_some, some_one, is_row_at}
 use Rattle.ap_engine.proofs.MappedLists.{same_choice, keys_of_images}
 use Rattle.ap_engine.proofs.RisingLists.{keys_rise}
 use Rattle.ap_engine.proofs.Quiet.{source_reaches_nothing}
-use Rattle.ap_engine.proofs.FreeJobs.{all_jobs_in_order}
+use Rattle.ap_db.proofs.Alike.{put_alike}
+use Rattle.ap_engine.proofs.NeededJobFacts.{are_joined}
+use Rattle.ap_engine.proofs.JobLists.{each_is_free, all_are_free}
+use Rattle.ap_engine.proofs.PutJobs.{put_has_all}
+use Rattle.ap_engine.proofs.FreeJobs.{by_job_id, all_jobs_in_order}
 use Rattle.ap_engine.proofs.FreeVerdicts.{free_job_row}
 use Rattle.ap_engine.proofs.JobPhase.{stands_by_input}
 
--- ---- the one job of a creation
+-- ---- the jobs of a creation
 
-free_in : (job desc : JobDesc) (deps : List DependencyRow) → job.deps ≡ deps → if_free job deps ≡ Some desc → (job ≡ desc) × (job.deps ≡ [])
-free_in job desc [] is e = (some_one job desc e, is)
-free_in job desc (dep ∷ deps) is e = absurd (none_some desc e)
+if_they_are : (jobs descs : List JobDesc) (all : Bool) → all_free jobs ≡ all → if_free jobs all ≡ Some descs → (jobs ≡ descs) × (all_free jobs ≡ true)
+if_they_are jobs descs true is e = (some_one jobs descs e, is)
+if_they_are jobs descs false is e = absurd (none_some descs e)
 
-pub free_is : (created : Created) (desc : JobDesc) → free_job_in created ≡ Some desc → (created ≡ Jobs (desc ∷ [])) × (desc.deps ≡ [])
-free_is (Jobs []) desc e = absurd (none_some desc e)
-free_is (Jobs (job ∷ [])) desc e = let is = free_in job desc job.deps refl e in (ap (λ job. Jobs (job ∷ [])) is.0, subst (λ (job : JobDesc). job.deps ≡ []) is.0 is.1)
-free_is (Jobs (job ∷ more ∷ jobs)) desc e = absurd (none_some desc e)
-free_is (Builder builder code) desc e = absurd (none_some desc e)
-free_is (DuplicateKey key platform) desc e = absurd (none_some desc e)
-free_is TooLarge desc e = absurd (none_some desc e)
+pub free_are : (created : Created) (descs : List JobDesc) → free_jobs_in created ≡ Some descs → (created ≡ Jobs descs) × AllByRecursion (λ desc. desc.deps ≡ []) descs
+free_are (Jobs jobs) descs e = let are = if_they_are jobs descs (all_free jobs) refl e in (ap Jobs are.0, each_is_free descs (ap all_free (sym are.0) ∙ are.1))
+free_are (Builder builder code) descs e = absurd (none_some descs e)
+free_are (DuplicateKey key platform) descs e = absurd (none_some descs e)
+free_are TooLarge descs e = absurd (none_some descs e)
 
-pub none_is_free : (created : Created) → free_job_in created ≡ None → ¬ IsOneFreeJob created
-none_is_free created none one = none_some one.job (sym none ∙ ap free_job_in one.one ∙ ap (if_free one.job) one.free)
+pub none_are_free : (created : Created) → free_jobs_in created ≡ None → ¬ AreFreeJobs created
+none_are_free created none free = none_some free.jobs (sym none ∙ ap free_jobs_in free.are ∙ ap (if_free free.jobs) (all_are_free free.jobs free.free))
 
 -- ---- lists
 
@@ -88,6 +90,40 @@ pub all_images : {X Y : Type 0} (P : Y → Type 0) (f : X → Y) (xs : List X) �
 all_images P f [] all = tt
 all_images P f (x ∷ xs) all = (all.0, all_images P f xs all.1)
 
+are_all_mapped : {X Y Z : Type 0} (Is : X → Z → Type 0) (f : Y → Z) (xs : List X) (ys : List Y) → AreAll (λ x y. Is x (f y)) xs ys → AreAll Is xs (map f ys)
+are_all_mapped Is f [] [] are = tt
+are_all_mapped Is f [] (y ∷ ys) are = absurd are
+are_all_mapped Is f (x ∷ xs) [] are = absurd are
+are_all_mapped Is f (x ∷ xs) (y ∷ ys) are = (are.0, are_all_mapped Is f xs ys are.1)
+
+-- ---- the jobs of a source, by job id
+
+-- the job is that of the source with its own description
+abbrev IsFrom : Source → SourceJob → Type 0
+IsFrom source job = job ≡ job_from source job.desc
+
+are_from : (source : Source) (descs : List JobDesc) → AllByRecursion (IsFrom source) (put_all (map (job_from source) descs) [])
+are_from source [] = tt
+are_from source (desc ∷ descs) = put_has_all (IsFrom source) (job_from source desc) (put_all (map (job_from source) descs) []) refl (are_from source descs)
+
+-- the job of a source is that of its winner
+record IsThatOf (source : Source) (winner : Winner) (job : SourceJob) (of : Job) : Type 0 where
+  pub is : job ≡ job_from source of.desc
+  pub path : of.source ≡ winner.path
+
+are_those_of : (source : Source) (winner : Winner) → source.path ≡ winner.path → (descs : List JobDesc)
+    → AreAll (IsThatOf source winner) (put_all (map (job_from source) descs) []) (in_order by_job_id (map (λ desc. record { source = winner.path; desc = desc }) descs))
+are_those_of source winner path [] = tt
+are_those_of source winner path (desc ∷ descs) =
+    put_alike (IsThatOf source winner) by_id by_job_id ranks (job_from source desc) (record { source = winner.path; desc = desc }) (record { is = refl; path = refl })
+    (put_all (map (job_from source) descs) []) (in_order by_job_id (map (λ desc. record { source = winner.path; desc = desc }) descs)) (are_those_of source winner path descs)
+  where
+    same_id : (job : SourceJob) (of : Job) → IsThatOf source winner job of → job.id ≡ id_of of
+    same_id job of is = ap (λ (w : SourceJob). w.id) is.is ∙ (λ i. record { source = (path ∙ sym is.path) i; key = of.desc.key; platform = of.desc.platform })
+
+    ranks : (a b : SourceJob) (of_a of_b : Job) → IsThatOf source winner a of_a → IsThatOf source winner b of_b → by_id a b ≡ by_job_id of_a of_b
+    ranks a b of_a of_b is_a is_b = λ i. job_cmp (same_id a of_a is_a i) (same_id b of_b is_b i)
+
 module _ (builders : Meanings) (config : Config) (winners : List Winner) where
   -- what a job is made from that nothing is handed over to
   abbrev pub made : Job → MadeFrom
@@ -104,11 +140,11 @@ module _ (builders : Meanings) (config : Config) (winners : List Winner) where
 
   -- what the jobs are made from that rows record of the sources, whatever is created from these
   module _ (db : Db) (contents : List (Option Entry)) (found : List Source) (are : AreThere builders config winners db contents found) where
-    read_job : (job : SourceJob) (source : Source) (winner : Winner) → IsFoundIn db.state.tables.creates.items job source → IsSourceOf db contents source winner → Contains (sources config winners) winner
+    read_job : (job : SourceJob) (source : Source) (winner : Winner) → IsFrom source job → IsTypedJob job → IsSourceOf db contents source winner → Contains (sources config winners) winner
         → (from : MadeFrom) × IsJobOf db contents job from
-    read_job job source winner of_rows of has = (
+    read_job job source winner is has_types of has = (
       made_of job of.bytes,
-      subst (λ (job : SourceJob). IsJobOf db contents job (made_of job of.bytes)) (sym of_rows.is) (record {
+      subst (λ (other : SourceJob). IsJobOf db contents other (made_of other of.bytes)) (sym is) (record {
         id = refl;
         same = refl;
         held = of.held;
@@ -128,22 +164,33 @@ module _ (builders : Meanings) (config : Config) (winners : List Winner) where
       }),
     )
       where
-        typed : IsTypedJob (job_from source of_rows.desc)
-        typed = subst IsTypedJob of_rows.is of_rows.typed
+        typed : IsTypedJob (job_from source job.desc)
+        typed = subst IsTypedJob is has_types
 
-    read_each : (jobs : List SourceJob) (some : List Source) (ws : List Winner) → AreAll (IsFoundIn db.state.tables.creates.items) jobs some → AreAll (IsSourceOf db contents) some ws
-        → ((winner : Winner) → Contains ws winner → Contains (sources config winners) winner) → (froms : List MadeFrom) × AreAll (IsJobOf db contents) jobs froms
-    read_each [] [] ws of_rows of has = ([], tt)
-    read_each [] (s ∷ some) ws of_rows of has = absurd of_rows
-    read_each (job ∷ jobs) [] ws of_rows of has = absurd of_rows
-    read_each (job ∷ jobs) (s ∷ some) [] of_rows of has = absurd of
-    read_each (job ∷ jobs) (s ∷ some) (w ∷ ws) of_rows of has =
-        let one = read_job job s w of_rows.0 of.0 (has w (Contains-head w ws)) in
-        let others = read_each jobs some ws of_rows.1 of.1 (λ winner in_tail. has winner (Contains-tail_of w ws winner in_tail)) in
+    read_part : (source : Source) (winner : Winner) → IsSourceOf db contents source winner → Contains (sources config winners) winner
+        → (jobs : List SourceJob) → AllByRecursion (IsFrom source) jobs → AllByRecursion IsTypedJob jobs → (froms : List MadeFrom) × AreAll (IsJobOf db contents) jobs froms
+    read_part source winner of has [] from typed = ([], tt)
+    read_part source winner of has (job ∷ jobs) from typed =
+        let one = read_job job source winner from.0 typed.0 of has in
+        let others = read_part source winner of has jobs from.1 typed.1 in
         (one.0 ∷ others.0, (one.1, others.1))
 
-    pub read_jobs : (jobs : List SourceJob) → AreAll (IsFoundIn db.state.tables.creates.items) jobs found → (froms : List MadeFrom) × AreAll (IsJobOf db contents) jobs froms
-    read_jobs jobs of_rows = read_each jobs found (sources config winners) of_rows are.sources (λ winner has. has)
+    read_each : (parts : List (List SourceJob)) (some : List Source) (ws : List Winner) → AreAll (AreFoundIn db.state.tables.creates.items) parts some → AreAll (IsSourceOf db contents) some ws
+        → ((winner : Winner) → Contains ws winner → Contains (sources config winners) winner) → (froms : List MadeFrom) × AreAll (IsJobOf db contents) (flat_map (λ part. part) parts) froms
+    read_each [] [] ws of_rows of has = ([], tt)
+    read_each [] (s ∷ some) ws of_rows of has = absurd of_rows
+    read_each (part ∷ parts) [] ws of_rows of has = absurd of_rows
+    read_each (part ∷ parts) (s ∷ some) [] of_rows of has = absurd of
+    read_each (part ∷ parts) (s ∷ some) (w ∷ ws) of_rows of has =
+        let here = of_rows.0 in
+        let one = read_part s w of.0 (has w (Contains-head w ws)) part (subst (AllByRecursion (IsFrom s)) (sym here.are) (are_from s here.descs)) here.typed in
+        let others = read_each parts some ws of_rows.1 of.1 (λ winner in_tail. has winner (Contains-tail_of w ws winner in_tail)) in
+        (one.0 ++ others.0, are_joined (IsJobOf db contents) part (flat_map (λ part. part) parts) one.0 others.0 one.1 others.1)
+
+    pub read_jobs : (jobs : List SourceJob) → AreAllFoundIn db.state.tables.creates.items jobs found → (froms : List MadeFrom) × AreAll (IsJobOf db contents) jobs froms
+    read_jobs jobs of_rows =
+        let read = read_each of_rows.parts found (sources config winners) of_rows.each are.sources (λ winner has. has) in
+        (read.0, subst (λ jobs. AreAll (IsJobOf db contents) jobs read.0) (sym of_rows.joined) read.1)
 
   module _ (db : Db) (contents : List (Option Entry)) (found : List Source) (stored : Stored) (is : IsBeside db contents stored) (are : AreThere builders config winners db contents found)
       (each_recorded : AreRecorded builders config winners stored.tables) where
@@ -151,7 +198,7 @@ module _ (builders : Meanings) (config : Config) (winners : List Winner) where
     rows = db.state.tables.creates.items
 
     recorded_as : (source : Source) (winner : Winner) → source.path ≡ winner.path → IsRecorded builders config winners stored.tables winner
-        → job_recorded rows source.path ≡ free_job_in (created builders (create_from builders config winners winner.path))
+        → jobs_recorded rows source.path ≡ free_jobs_in (created builders (create_from builders config winners winner.path))
     recorded_as source winner path recorded =
         by_row (find (λ row. bytes_eq row.source source.path) rows)
         (subst (AreBoth (CreateIs (Names db.state.things.items contents)) (find (λ row. bytes_eq row.source source.path) rows))
@@ -159,58 +206,50 @@ module _ (builders : Meanings) (config : Config) (winners : List Winner) where
         (found_both (Names db.state.things.items contents) source.path rows stored.tables.creates is.stands.tables.creates))
       where
         by_row : (row : Option CreateRow) → AreBoth (CreateIs (Names db.state.things.items contents)) row (Some recorded.row)
-            → option_and_then (λ row. free_job_in row.created) row ≡ free_job_in (created builders (create_from builders config winners winner.path))
+            → option_and_then (λ row. free_jobs_in row.created) row ≡ free_jobs_in (created builders (create_from builders config winners winner.path))
         by_row None both = absurd both
-        by_row (Some row) both = ap free_job_in (both.created ∙ recorded.same)
+        by_row (Some row) both = ap free_jobs_in (both.created ∙ recorded.same)
 
-    pub other_recorded : (source : Source) (winner : Winner) → IsSourceOf db contents source winner → Contains (sources config winners) winner → job_recorded rows source.path ≡ None
-        → ¬ IsOneFreeJob (created builders (create_from builders config winners winner.path))
-    other_recorded source winner of has none = none_is_free (created builders (create_from builders config winners winner.path)) (sym (recorded_as source winner of.path (each_recorded winner has)) ∙ none)
+    pub other_recorded : (source : Source) (winner : Winner) → IsSourceOf db contents source winner → Contains (sources config winners) winner → jobs_recorded rows source.path ≡ None
+        → ¬ AreFreeJobs (created builders (create_from builders config winners winner.path))
+    other_recorded source winner of has none = none_are_free (created builders (create_from builders config winners winner.path)) (sym (recorded_as source winner of.path (each_recorded winner has)) ∙ none)
 
-    one_found : (job : SourceJob) (source : Source) (winner : Winner) → IsFoundIn rows job source → IsSourceOf db contents source winner → Contains (sources config winners) winner
-        → (desc : JobDesc) × (created builders (create_from builders config winners winner.path) ≡ Jobs (desc ∷ [])) × (desc.deps ≡ []) × IsJobOf db contents job (made (record { source = winner.path; desc = desc }))
-    one_found job source winner of_rows of has = (
-      of_rows.desc,
-      free.0,
-      free.1,
-      subst (λ job. IsJobOf db contents job from) (sym of_rows.is) (record {
-        id = λ i. record { source = of.path i; key = of_rows.desc.key; platform = of_rows.desc.platform };
-        same = λ i. record {
-          builder = of_rows.desc.builder;
-          version = of_rows.desc.version;
-          platform = of_rows.desc.platform;
-          key = of_rows.desc.key;
-          params = of_rows.desc.params;
-          path = of.path i;
-          bytes = content_at_path winners winner.path;
-          reached = nothing i;
-          handed = [];
-        };
-        held = subst (λ bytes. IsHeld db contents source.content (bytes_thing bytes)) (sym content) of.held;
-        typed = record {
-          builder = typed.builder;
-          version = typed.version;
-          platform = typed.platform;
-          key = typed.key;
-          params = typed.params;
-          path = record { path = subst IsRelPath of.path typed.path; folded = are.quiet.folded winner (among_winners winner has) };
-          reached = subst (All IsReached) nothing (all_none IsReached);
-          reached_count = subst (λ files. Fits64 (length files)) nothing (omega arith);
-          handed = all_none _;
-          handed_count = omega arith;
-        };
-        short = subst (λ (bytes : List ℕ). IsShort bytes) (sym content) (are.short winner has of.bytes of.seen);
-      }),
-    )
+    -- what a job of a source is made from
+    one_found : (source : Source) (winner : Winner) → IsSourceOf db contents source winner → Contains (sources config winners) winner → (job : SourceJob) (one : Job) → IsThatOf source winner job one → IsTypedJob job
+        → IsJobOf db contents job (made one)
+    one_found source winner of has job one is has_types =
+        subst (λ job. IsJobOf db contents job (made one)) (sym is.is)
+        (subst (λ path. IsJobOf db contents (job_from source one.desc) (made (record { source = path; desc = one.desc }))) (sym is.path) (record {
+          id = λ i. record { source = of.path i; key = one.desc.key; platform = one.desc.platform };
+          same = λ i. record {
+            builder = one.desc.builder;
+            version = one.desc.version;
+            platform = one.desc.platform;
+            key = one.desc.key;
+            params = one.desc.params;
+            path = of.path i;
+            bytes = content_at_path winners winner.path;
+            reached = nothing i;
+            handed = [];
+          };
+          held = subst (λ bytes. IsHeld db contents source.content (bytes_thing bytes)) (sym content) of.held;
+          typed = record {
+            builder = typed.builder;
+            version = typed.version;
+            platform = typed.platform;
+            key = typed.key;
+            params = typed.params;
+            path = record { path = subst IsRelPath of.path typed.path; folded = are.quiet.folded winner (among_winners winner has) };
+            reached = subst (All IsReached) nothing (all_none IsReached);
+            reached_count = subst (λ files. Fits64 (length files)) nothing (omega arith);
+            handed = all_none _;
+            handed_count = omega arith;
+          };
+          short = subst (λ (bytes : List ℕ). IsShort bytes) (sym content) (are.short winner has of.bytes of.seen);
+        }))
       where
-        free : (created builders (create_from builders config winners winner.path) ≡ Jobs (of_rows.desc ∷ [])) × (of_rows.desc.deps ≡ [])
-        free = free_is (created builders (create_from builders config winners winner.path)) of_rows.desc (sym (recorded_as source winner of.path (each_recorded winner has)) ∙ of_rows.recorded)
-
-        from : MadeFrom
-        from = made (record { source = winner.path; desc = of_rows.desc })
-
-        typed : IsTypedJob (job_from source of_rows.desc)
-        typed = subst IsTypedJob of_rows.is of_rows.typed
+        typed : IsTypedJob (job_from source one.desc)
+        typed = subst IsTypedJob is.is has_types
 
         nothing : [] ≡ reached builders config winners winner.path
         nothing = sym (source_reaches_nothing builders config winners are.quiet winner has)
@@ -218,28 +257,58 @@ module _ (builders : Meanings) (config : Config) (winners : List Winner) where
         content : content_at_path winners winner.path ≡ of.bytes
         content = ap bytes_seen (winner_seen are.quiet winner (among_winners winner has) ∙ of.seen)
 
-    all_found : (jobs : List SourceJob) (some : List Source) (ws : List Winner) → AreAll (IsFoundIn rows) jobs some → AreAll (IsSourceOf db contents) some ws → ((winner : Winner) → Contains ws winner → Contains (sources config winners) winner)
-        → AllByRecursion (λ winner. IsOneFreeJob (created builders (create_from builders config winners winner.path))) ws × AreAll (IsJobOf db contents) jobs (map made (flat_map jobs_at ws))
+    -- a job of the source is made from this
+    abbrev IsMadeOf : SourceJob → Job → Type 0
+    IsMadeOf job one = IsJobOf db contents job (made one)
+
+    part_found : (source : Source) (winner : Winner) → IsSourceOf db contents source winner → Contains (sources config winners) winner
+        → (jobs : List SourceJob) (ones : List Job) → AreAll (IsThatOf source winner) jobs ones → AllByRecursion IsTypedJob jobs → AreAll IsMadeOf jobs ones
+    part_found source winner of has [] [] are_those typed = tt
+    part_found source winner of has [] (one ∷ ones) are_those typed = absurd are_those
+    part_found source winner of has (job ∷ jobs) [] are_those typed = absurd are_those
+    part_found source winner of has (job ∷ jobs) (one ∷ ones) are_those typed = (one_found source winner of has job one are_those.0 typed.0, part_found source winner of has jobs ones are_those.1 typed.1)
+
+    -- the jobs of a source in order
+    abbrev ordered_at : Winner → List Job
+    ordered_at winner = in_order by_job_id (jobs_at winner)
+
+    source_found : (jobs : List SourceJob) (source : Source) (winner : Winner) → AreFoundIn rows jobs source → IsSourceOf db contents source winner → Contains (sources config winners) winner
+        → AreFreeJobs (created builders (create_from builders config winners winner.path)) × AreAll IsMadeOf jobs (ordered_at winner)
+    source_found jobs source winner of_rows of has = (
+      record { jobs = of_rows.descs; are = free.0; free = free.1 },
+      part_found source winner of has jobs (ordered_at winner)
+          (subst (λ came. AreAll (IsThatOf source winner) jobs (in_order by_job_id (jobs_of winner.path came))) (sym free.0)
+          (subst (λ found. AreAll (IsThatOf source winner) found (in_order by_job_id (map (λ desc. record { source = winner.path; desc = desc }) of_rows.descs))) (sym of_rows.are)
+          (are_those_of source winner of.path of_rows.descs))) of_rows.typed,
+    )
+      where
+        free : (created builders (create_from builders config winners winner.path) ≡ Jobs of_rows.descs) × AllByRecursion (λ desc. desc.deps ≡ []) of_rows.descs
+        free = free_are (created builders (create_from builders config winners winner.path)) of_rows.descs (sym (recorded_as source winner of.path (each_recorded winner has)) ∙ of_rows.recorded)
+
+    all_found : (parts : List (List SourceJob)) (some : List Source) (ws : List Winner) → AreAll (AreFoundIn rows) parts some → AreAll (IsSourceOf db contents) some ws → ((winner : Winner) → Contains ws winner → Contains (sources config winners) winner)
+        → AllByRecursion (λ winner. AreFreeJobs (created builders (create_from builders config winners winner.path))) ws × AreAll IsMadeOf (flat_map (λ part. part) parts) (flat_map ordered_at ws)
     all_found [] [] [] of_rows of has = (tt, tt)
     all_found [] [] (w ∷ ws) of_rows of has = absurd of
     all_found [] (s ∷ some) ws of_rows of has = absurd of_rows
-    all_found (job ∷ jobs) [] ws of_rows of has = absurd of_rows
-    all_found (job ∷ jobs) (s ∷ some) [] of_rows of has = absurd of
-    all_found (job ∷ jobs) (s ∷ some) (w ∷ ws) of_rows of has =
-        let one = one_found job s w of_rows.0 of.0 (has w (Contains-head w ws)) in
-        let others = all_found jobs some ws of_rows.1 of.1 (λ winner in_tail. has winner (Contains-tail_of w ws winner in_tail)) in (
-          (record { job = one.0; one = one.1; free = one.2 }, others.0),
-          subst (λ (l : List Job). AreAll (IsJobOf db contents) (job ∷ jobs) (map made (l ++ flat_map jobs_at ws))) (sym (ap (jobs_of w.path) one.1)) (one.3, others.1),
-        )
+    all_found (part ∷ parts) [] ws of_rows of has = absurd of_rows
+    all_found (part ∷ parts) (s ∷ some) [] of_rows of has = absurd of
+    all_found (part ∷ parts) (s ∷ some) (w ∷ ws) of_rows of has =
+        let one = source_found part s w of_rows.0 of.0 (has w (Contains-head w ws)) in
+        let others = all_found parts some ws of_rows.1 of.1 (λ winner in_tail. has winner (Contains-tail_of w ws winner in_tail)) in
+        ((one.0, others.0), are_joined IsMadeOf part (flat_map (λ part. part) parts) (ordered_at w) (flat_map ordered_at ws) one.1 others.1)
 
-    module _ (jobs : List SourceJob) (of_rows : AreAll (IsFoundIn rows) jobs found) where
+    module _ (jobs : List SourceJob) (of_rows : AreAllFoundIn rows jobs found) where
+      all_are_found : AllByRecursion (λ winner. AreFreeJobs (created builders (create_from builders config winners winner.path))) (sources config winners)
+          × AreAll IsMadeOf (flat_map (λ part. part) of_rows.parts) (flat_map ordered_at (sources config winners))
+      all_are_found = all_found of_rows.parts found (sources config winners) of_rows.each are.sources (λ winner has. has)
+
       pub found_free : AreFree builders config winners
-      found_free winner has = AllByRecursion-at (λ winner. IsOneFreeJob (created builders (create_from builders config winners winner.path))) (sources config winners) winner
-          (all_found jobs found (sources config winners) of_rows are.sources (λ winner has. has)).0 has
+      found_free winner has = AllByRecursion-at (λ winner. AreFreeJobs (created builders (create_from builders config winners winner.path))) (sources config winners) winner all_are_found.0 has
 
       pub found_jobs : AreAll (IsJobOf db contents) jobs (map made (all_jobs builders config winners))
-      found_jobs = subst (λ all. AreAll (IsJobOf db contents) jobs (map made all)) (sym (all_jobs_in_order builders config winners found_free are.quiet))
-          (all_found jobs found (sources config winners) of_rows are.sources (λ winner has. has)).1
+      found_jobs = are_all_mapped (IsJobOf db contents) made jobs (all_jobs builders config winners)
+          (subst (AreAll IsMadeOf jobs) (sym (all_jobs_in_order builders config winners are.quiet))
+          (subst (λ found. AreAll IsMadeOf found (flat_map ordered_at (sources config winners))) (sym of_rows.joined) all_are_found.1))
 
       pub found_inputs : AreJobInputs builders config winners
       found_inputs job has = AllByRecursion-at IsJobInput (map made (all_jobs builders config winners)) (made job) (all_typed jobs (map made (all_jobs builders config winners)) found_jobs) (Contains-map made (all_jobs builders config winners) job has)

@@ -27,7 +27,7 @@ use Rattle.ap_engine.proofs.Steps.{one_job_or_two, job_put, job_put_beside, kept
 
 module _ (builders : Meanings) (config : Config) (winners : List Winner) (quiet : AreQuiet builders config winners) (are_free : AreFree builders config winners) where
   pub ids_rise : IsStrictlySortedBy job_cmp (map id_of (all_jobs builders config winners))
-  ids_rise = keys_rise job_cmp id_of (all_jobs builders config winners) (jobs_rise builders config winners are_free quiet)
+  ids_rise = keys_rise job_cmp id_of (all_jobs builders config winners) (jobs_rise builders config winners)
 
   -- a job is found under its id
   pub found_under_id : (job : Job) → Contains (all_jobs builders config winners) job → job_at (all_jobs builders config winners) (id_of job) ≡ Some job

@@ -3,6 +3,7 @@ pub mod Following
 pub mod Gains
 pub mod HeldAgain
 pub mod Formed
+pub mod JobLists
 pub mod AskedJobs
 pub mod Needs
 pub mod SliceSteps
@@ -16,6 +17,7 @@ pub mod RisingLists
 pub mod LookUps
 pub mod Quiet
 pub mod FreeJobs
+pub mod JobIds
 pub mod FreeVerdicts
 pub mod Steps
 pub mod SameRows
@@ -39,6 +41,7 @@ pub mod Openings
 pub mod Runs
 pub mod RunPhases
 pub mod PutFolders
+pub mod PutJobs
 pub mod NextItems
 pub mod JobNumbers
 pub mod NeededJobFacts

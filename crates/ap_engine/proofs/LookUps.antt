@@ -1,5 +1,6 @@
 -- The row of a key: after a put, under a filter, and in tables that rise.
-use Rattle.std.proofs.Common.{◌≡◌, ◌≢◌, Bool, true, false, cond, List, [], ◌∷◌, Contains, Decides, Option, Some, None, map, refl, sym, ◌∙◌, ap, subst, ⊎_elim}
+use Rattle.std.proofs.Common.{◌≡◌, ◌≢◌, ◌⊎◌, Bool, true, false, cond, List, [], ◌∷◌, Contains, Decides, Option, Some, None, map, refl, sym, ◌∙◌, ap, subst, ⊎_elim}
+use Rattle.std.specs.Prelude.{is_some}
 use Rattle.std.specs.List.{AllByRecursion, filter, find}
 use Rattle.std.specs.List.Sorted.{IsStrictlySortedBy}
 use Rattle.std.specs.Cmp.{IsTotalOrder}
@@ -30,6 +31,19 @@ found_passes {X = X} test (y ∷ ys) x e = by_case (test y) refl e (found_passes
     by_case : (b : Bool) → test y ≡ b → cond b (Some y) (find test ys) ≡ Some x → (find test ys ≡ Some x → Contains ys x × (test x ≡ true)) → Contains (y ∷ ys) x × (test x ≡ true)
     by_case true t e more = let is : y ≡ x = some_one y x e in (subst (λ w. Contains (y ∷ ys) w) is (Contains-head y ys), ap test (sym is) ∙ t)
     by_case false t e more = (Contains-tail_of y ys x (more e).0, (more e).1)
+
+-- something passes where one of them does, and nothing where none does
+pub passing_found : {X : Type 0} (test : X → Bool) (xs : List X) (x : X) → Contains xs x → test x ≡ true → is_some (find test xs) ≡ true
+passing_found test [] x has e = absurd (Contains-none x has)
+passing_found test (y ∷ ys) x has e = by_case (test y) refl (Contains-cons_cases y ys x has) (passing_found test ys x)
+  where
+    by_case : (b : Bool) → test y ≡ b → (y ≡ x) ⊎ Contains ys x → (Contains ys x → test x ≡ true → is_some (find test ys) ≡ true) → is_some (cond b (Some y) (find test ys)) ≡ true
+    by_case true t k more = refl
+    by_case false t k more = ⊎_elim (λ s. absurd (true≢false (sym e ∙ ap test (sym s) ∙ t))) (λ later. more later e) k
+
+pub none_found : {X : Type 0} (test : X → Bool) (xs : List X) → ((x : X) → Contains xs x → test x ≡ false) → find test xs ≡ None
+none_found test [] fails = refl
+none_found test (y ∷ ys) fails = ap (λ b. cond b (Some y) (find test ys)) (fails y (Contains-head y ys)) ∙ none_found test ys (λ x has. fails x (Contains-tail_of y ys x has))
 
 module _ {X K : Type 0} (cmp : K → K → Ordering) (order : IsTotalOrder cmp) (eq : K → K → Bool) (same : (a b : K) → Decides (eq a b) (a ≡ b)) (key : X → K) where
   -- the row of a key

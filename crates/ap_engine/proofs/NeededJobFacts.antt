@@ -15,7 +15,7 @@ use Rattle.ap_db.specs.Changes.{job_row_at}
 use Rattle.ap_db.specs.Listed.{AreAll}
 use Rattle.ap_db.specs.Stored.{Stored}
 use Rattle.ap_db.specs.Tables.{PlainTables}
-use Rattle.ap_engine.specs.declared.processing.SourceJob.{SourceJob}
+use Rattle.ap_engine.specs.declared.jobs.SourceJob.{SourceJob}
 use Rattle.ap_engine.specs.declared.processing.NeededJob.{NeededJob}
 use Rattle.ap_engine.specs.Need.{records_input}
 use Rattle.ap_engine.specs.Ledgers.{IsBeside, IsHeld, StayHeld}

@@ -5,7 +5,7 @@ use Rattle.std.specs.List.{flat_map, list_any, AllByRecursion}
 use Rattle.std.proofs.lemmas.Bool.{true≢false}
 use Rattle.ap_text.specs.Wild.{some_matches_lem}
 use Rattle.ap_text.specs.declared.seen.Seen.TheVariants.{Bytes}
-use Rattle.ap_text.proofs.Members.{Contains-none, Contains-head, Contains-map_cases, AllByRecursion-at}
+use Rattle.ap_text.proofs.Members.{Contains-none, Contains-map_cases, AllByRecursion-at}
 use Rattle.ap_content.proofs.Members.{Contains-filtered}
 use Rattle.ap_config.specs.declared.config.Config.{Config}
 use Rattle.ap_config.specs.declared.offer.Offer.{Offer}
@@ -14,7 +14,7 @@ use Rattle.ap_rows.specs.declared.job.JobDesc.{JobDesc}
 use Rattle.ap_rows.specs.declared.job.Created.{Created}
 use Rattle.ap_rows.specs.declared.job.Created.TheVariants.{Jobs as CreatedJobs, Builder, DuplicateKey, TooLarge}
 use Rattle.ap_rows.specs.Inputs.{CreateFrom, MadeFrom}
-use Rattle.ap_rows.specs.Jobs.{Job}
+use Rattle.ap_rows.specs.Jobs.{Job, jobs_of}
 use Rattle.ap_builder.specs.Meanings.{Meanings}
 use Rattle.ap_builder.specs.Offers.{is_offered}
 use Rattle.ap_builder.specs.Answers.{CreatesFor, IsJobBy}
@@ -31,7 +31,7 @@ use Rattle.ap_engine.specs.Worlds.{AreQuiet, AreFree}
 use Rattle.ap_engine.specs.NeededJobs.{IsBuilt, needed_in}
 use Rattle.ap_engine.specs.Recorded.{open_jobs, IsUnmade}
 use Rattle.ap_engine.proofs.LookUps.{none_some, some_one}
-use Rattle.ap_engine.proofs.FreeJobs.{job_of_source, is_the_job}
+use Rattle.ap_engine.proofs.FreeJobs.{job_of_source}
 use Rattle.ap_engine.proofs.FoundJobs.{made, same_needed, winner_seen, among_winners}
 
 -- ---- what is created of answers
@@ -71,13 +71,13 @@ jobs_are answers jobs e = by_refusal (first_failure answers) (first_duplicate []
     by_refusal None None f d e = cc e
 
 module _ (builders : Meanings) (well : (name : List ℕ) (input : CreateInput) → CreatesFor name input (builders.creates name input)) where
-  -- the one job of a creation names one of the builders that were asked
-  named : (x : CreateFrom) (bytes : List ℕ) → x.seen ≡ Bytes bytes → (desc : JobDesc) → created builders x ≡ CreatedJobs (desc ∷ []) → (builder : List ℕ × ℕ) × Contains x.builders builder × (desc.builder ≡ builder.0)
-  named x bytes seen desc e =
+  -- each job of a creation names one of the builders that were asked
+  named : (x : CreateFrom) (bytes : List ℕ) → x.seen ≡ Bytes bytes → (desc : JobDesc) (jobs : List JobDesc) → created builders x ≡ CreatedJobs jobs → Contains jobs desc → (builder : List ℕ × ℕ) × Contains x.builders builder × (desc.builder ≡ builder.0)
+  named x bytes seen desc jobs e has =
       let input : CreateInput = create_view x bytes in
       let answer_of : List ℕ × ℕ → List ℕ × CreateAnswer = λ builder. (builder.0, builders.creates builder.0 input) in
-      let all : flat_map (λ (answer : List ℕ × CreateAnswer). jobs_answered answer.1) (map answer_of x.builders) ≡ desc ∷ [] = jobs_are (map answer_of x.builders) (desc ∷ []) (sym (ap (created_seen builders x) seen) ∙ e) in
-      let there = Contains-flat_map_cases (λ (answer : List ℕ × CreateAnswer). jobs_answered answer.1) (map answer_of x.builders) desc (subst (λ (jobs : List JobDesc). Contains jobs desc) (sym all) (Contains-head desc [])) in
+      let all : flat_map (λ (answer : List ℕ × CreateAnswer). jobs_answered answer.1) (map answer_of x.builders) ≡ jobs = jobs_are (map answer_of x.builders) jobs (sym (ap (created_seen builders x) seen) ∙ e) in
+      let there = Contains-flat_map_cases (λ (answer : List ℕ × CreateAnswer). jobs_answered answer.1) (map answer_of x.builders) desc (subst (λ (jobs : List JobDesc). Contains jobs desc) (sym all) has) in
       let of = Contains-map_cases answer_of x.builders there.0 there.1 in
       (of.0, of.1, by_answer of.0.0 input desc (builders.creates of.0.0 input) (well of.0.0 input) (subst (λ (answer : List ℕ × CreateAnswer). Contains (jobs_answered answer.1) desc) (sym of.2) there.2))
     where
@@ -92,12 +92,13 @@ module _ (builders : Meanings) (well : (name : List ℕ) (input : CreateInput) �
     offered_job job has =
         let of = job_of_source builders config winners job has in
         let free = are_free of.winner of.is in
+        let its = Contains-map_cases (λ (desc : JobDesc). record { source = of.winner.path; desc = desc }) free.jobs job (subst (λ came. Contains (jobs_of of.winner.path came) job) free.are of.among) in
         let read = quiet.read of.winner (among_winners builders config winners of.winner of.is) in
-        let by = named (create_from builders config winners of.winner.path) read.bytes (winner_seen builders config winners quiet of.winner (among_winners builders config winners of.winner of.is) ∙ read.seen) free.job free.one in
+        let by = named (create_from builders config winners of.winner.path) read.bytes (winner_seen builders config winners quiet of.winner (among_winners builders config winners of.winner of.is) ∙ read.seen) its.0 free.jobs free.are its.1 in
         let offer = Contains-map_cases (λ (builder : Offer). (builder.name, builder.version)) (matching config of.winner.path) by.0 by.1 in
         let own = AllByRecursion-at (λ (offer : Offer). IsTrue (is_offered offers offer.name)) config.builders offer.0 offered
         (Contains-filtered (λ (builder : Offer). some_matches_lem builder.patterns of.winner.path) config.builders offer.0 offer.1).0 in
-        subst (λ (job : Job). IsTrue (is_offered offers job.desc.builder)) (is_the_job builders config winners are_free of.winner of.is job of.among)
+        subst (λ (job : Job). IsTrue (is_offered offers job.desc.builder)) its.2
         (subst (λ name. IsTrue (is_offered offers name)) (ap (λ (builder : List ℕ × ℕ). builder.0) offer.2 ∙ sym by.2) own)
 
     -- a needed job that isn't built as it should

@@ -1,6 +1,6 @@
 -- What the tables have at each key after each phase of a run, from sound tables that rise.
-use Rattle.std.proofs.Common.{◌≡◌, ◌≢◌, ◌||◌, ℕ, Bool, true, false, cond, not, List, [], ◌∷◌, Contains, Option, Some, None, refl, sym, ◌∙◌, ap, subst, ⊎_elim}
-use Rattle.std.specs.Prelude.{bytes_eq, is_some, find, option_map, IsSome}
+use Rattle.std.proofs.Common.{◌≡◌, ◌≢◌, ◌||◌, ℕ, Bool, true, false, not, List, Contains, Option, Some, None, refl, sym, ◌∙◌, ap, subst, ⊎_elim}
+use Rattle.std.specs.Prelude.{bytes_eq, is_some, option_map, IsSome}
 use Rattle.std.specs.Cmp.Lexicographic.{nat_list_cmp_total}
 use Rattle.std.proofs.lemmas.Slice.Eq.{bytes_eq-Decides}
 use Rattle.ap_text.specs.declared.job_id.JobId.{JobId}
@@ -21,9 +21,10 @@ use Rattle.ap_engine.specs.Need.{creation_stands}
 use Rattle.ap_engine.specs.Sound.{IsCreation, IsProcessing, AreSoundTables}
 use Rattle.ap_engine.specs.Changes.{source_at, source_changes, create_changes, job_changes}
 use Rattle.ap_engine.specs.Worlds.{AreQuiet, AreFree, AreCreateInputs, AreJobInputs}
-use Rattle.ap_engine.proofs.LookUps.{some_one, none_some, found_there, is_row_at}
+use Rattle.ap_engine.proofs.LookUps.{some_one, none_some, passing_found, none_found, found_there, is_row_at}
 use Rattle.ap_engine.proofs.Quiet.{paths_rise}
-use Rattle.ap_engine.proofs.FreeJobs.{IsOfSource, jobs_at, job_of_source, is_the_job, job_is_there}
+use Rattle.ap_engine.proofs.FreeJobs.{IsOfSource, jobs_at, job_of_source, source_is, job_is_there}
+use Rattle.ap_engine.proofs.JobIds.{id_created, job_created, job_of_id}
 use Rattle.ap_engine.proofs.FreeVerdicts.{free_row}
 use Rattle.ap_engine.proofs.Steps.{one_or_two}
 use Rattle.ap_engine.proofs.Standing.{standing_creation, standing_job}
@@ -38,21 +39,18 @@ or_true false = refl
 none_there : {X : Type 0} (found : Option X) → found ≡ None → IsSome found → ⊥
 none_there found e is = cc (sym is ∙ ap is_some e)
 
--- a row of this job stays beside it, and one of another job doesn't
-beside_itself : (create : PlainCreate) (id : JobId) → created_ids create.source create.created ≡ id ∷ [] → (row : PlainJob) → row.id ≡ id → stays_beside create row ≡ true
-beside_itself create id ids row e =
-    ap (λ found. not (bytes_eq row.id.source create.source) || is_some found)
-    (ap (find (λ other. same_job other row.id)) ids ∙ ap (λ b. cond b (Some id) None) ((same_job-Decides id row.id).1 (sym e)))
+-- a row of one of its jobs stays beside a creation, and one of another job doesn't
+beside_its_own : (create : PlainCreate) (id : JobId) → Contains (created_ids create.source create.created) id → (row : PlainJob) → row.id ≡ id → stays_beside create row ≡ true
+beside_its_own create id its row e =
+    ap (λ found. not (bytes_eq row.id.source create.source) || found)
+    (passing_found (λ other. same_job other row.id) (created_ids create.source create.created) id its ((same_job-Decides id row.id).1 (sym e)))
     ∙ or_true (not (bytes_eq row.id.source create.source))
 
-beside_no_other : (create : PlainCreate) (id : JobId) → created_ids create.source create.created ≡ id ∷ [] → (row : PlainJob) → row.id.source ≡ create.source → id ≢ row.id → stays_beside create row ≡ false
-beside_no_other create id ids row of differ =
+beside_no_other : (create : PlainCreate) (row : PlainJob) → row.id.source ≡ create.source → ((id : JobId) → Contains (created_ids create.source create.created) id → id ≢ row.id) → stays_beside create row ≡ false
+beside_no_other create row of differ =
     ap (λ found. not (bytes_eq row.id.source create.source) || is_some found)
-    (ap (find (λ other. same_job other row.id)) ids ∙ ap (λ b. cond b (Some id) None) (not_same_job id row.id differ))
+    (none_found (λ other. same_job other row.id) (created_ids create.source create.created) (λ id has. not_same_job id row.id (differ id has)))
     ∙ ap (λ b. not b || false) ((bytes_eq-Decides row.id.source create.source).1 of)
-
-only_job_is : (job : Job) (id : JobId) → is_job (job ∷ []) id ≡ true → id_of job ≢ id → ⊥
-only_job_is job id is differ = cc (sym is ∙ ap (λ b. is_some (cond b (Some job) None)) (not_same_job (id_of job) id differ))
 
 module _ (builders : Meanings) (config : Config) (winners : List Winner) (quiet : AreQuiet builders config winners) where
   pub found_at_path : (winner : Winner) → Contains (sources config winners) winner → source_at config winners winner.path ≡ Some winner
@@ -122,12 +120,8 @@ module _ (builders : Meanings) (config : Config) (winners : List Winner) (quiet 
       -- ---- jobs
 
       module _ (are_free : AreFree builders config winners) where
-        ids_of_source : (winner : Winner) → Contains (sources config winners) winner → (job : Job) → Contains (jobs_at builders config winners winner) job
-            → created_ids winner.path (created builders (create_from builders config winners winner.path)) ≡ id_of job ∷ []
-        ids_of_source winner is job among = ap (created_ids winner.path) (are_free winner is).one ∙ ap (λ (w : Job). id_of w ∷ []) (is_the_job builders config winners are_free winner is job among)
-
         source_of_job : (job : Job) (of : IsOfSource builders config winners job) → of.winner.path ≡ job.source
-        source_of_job job of = ap (λ (w : Job). w.source) (is_the_job builders config winners are_free of.winner of.is job of.among)
+        source_of_job job of = sym (source_is builders config winners of.winner job of.among)
 
         -- a row at a job's id is as it was
         pub job_as_before : (job : Job) → Contains (all_jobs builders config winners) job → job_row_at with_all_creations (id_of job) ≡ job_row_at tables (id_of job)
@@ -136,8 +130,9 @@ module _ (builders : Meanings) (config : Config) (winners : List Winner) (quiet 
             let here : source_at config winners job.source ≡ Some of.winner = ap (source_at config winners) (sym (source_of_job job of)) ∙ found_at_path of.winner of.is in
             jobs_kept builders config winners sourced (id_of job)
             (λ other on row e. ⊎_elim
-            (λ same. beside_itself (create_row builders config winners other.path) (id_of job)
-            (subst (λ p. created_ids p (created builders (create_from builders config winners p)) ≡ id_of job ∷ []) (source_of_job job of ∙ sym same) (ids_of_source of.winner of.is job of.among)) row e)
+            (λ same. beside_its_own (create_row builders config winners other.path) (id_of job)
+            (subst (λ p. Contains (created_ids p (created builders (create_from builders config winners p))) (id_of job)) (source_of_job job of ∙ sym same)
+            (id_created of.winner.path (created builders (create_from builders config winners of.winner.path)) job of.among)) row e)
             (λ differ. stays_beside_another (create_row builders config winners other.path) row (λ f. differ (sym f ∙ ap (λ (w : JobId). w.source) e)))
             (one_or_two other.path job.source))
             ∙ jobs_then_stay config winners tables (id_of job) of.winner here
@@ -154,7 +149,7 @@ module _ (builders : Meanings) (config : Config) (winners : List Winner) (quiet 
 
         module _ (rise : TablesRise tables) where
           -- where the source's creation stood, no job but its own had a row
-          no_other_row : (winner : Winner) (is : Contains (sources config winners) winner) (id : JobId) → winner.path ≡ id.source → id_of (record { source = winner.path; desc = (are_free winner is).job }) ≢ id
+          no_other_row : (winner : Winner) (is : Contains (sources config winners) winner) (id : JobId) → winner.path ≡ id.source → ((job : Job) → Contains (jobs_at builders config winners winner) job → id_of job ≢ id)
               → create_row_at sourced winner.path ≡ Some (create_row builders config winners winner.path) → job_row_at tables id ≡ None
           no_other_row winner is id of differ stands = by_case (job_row_at tables id) refl
             where
@@ -167,11 +162,9 @@ module _ (builders : Meanings) (config : Config) (winners : List Winner) (quiet 
                   let there : create_row_at tables has.create.source ≡ Some has.create = is_row_at bytes_cmp nat_list_cmp_total bytes_eq bytes_eq-Decides (λ (row : PlainCreate). row.source) tables.creates has.create rise.creates has.there in
                   let one : has.create ≡ create_row builders config winners winner.path = some_one has.create (create_row builders config winners winner.path)
                   (sym there ∙ ap (create_row_at tables) path ∙ sym (creation_as_before winner is) ∙ stands) in
-                  let job : Job = record { source = winner.path; desc = (are_free winner is).job } in
-                  let among : is_job (jobs_of winner.path (created builders (create_from builders config winners winner.path))) row.id ≡ true = subst (λ (w : PlainCreate). is_job (jobs_of w.source w.created) row.id ≡ true) one has.among in
-                  absurd (only_job_is job id
-                  (subst (λ w. is_job (job ∷ []) w ≡ true) r.1 (subst (λ answer. is_job (jobs_of winner.path answer) row.id ≡ true) (are_free winner is).one among))
-                  differ)
+                  let among : is_job (jobs_at builders config winners winner) row.id ≡ true = subst (λ (w : PlainCreate). is_job (jobs_of w.source w.created) row.id ≡ true) one has.among in
+                  let its = job_of_id (jobs_at builders config winners winner) row.id among in
+                  absurd (differ its.0 its.1 (its.2 ∙ r.1))
 
           no_job_then : (id : JobId) → ((job : Job) → Contains (all_jobs builders config winners) job → id_of job ≢ id) → job_row_at with_all_creations id ≡ None
           no_job_then id differ = by_case (source_at config winners id.source) refl
@@ -180,11 +173,11 @@ module _ (builders : Meanings) (config : Config) (winners : List Winner) (quiet 
               by_case None e = no_jobs_then builders config winners sourced id (jobs_then_gone config winners tables id e (lone_job id))
               by_case (Some winner) e =
                   let r = source_is_of config winners id.source winner e in
-                  let job : Job = record { source = winner.path; desc = (are_free winner r.0).job } in
-                  let other : id_of job ≢ id = differ job (job_is_there builders config winners are_free quiet winner r.0) in
+                  let other : (job : Job) → Contains (jobs_at builders config winners winner) job → id_of job ≢ id =
+                  (λ job among same. let one = job_is_there builders config winners winner r.0 job among in differ one.0 one.1 (one.2 ∙ same)) in
                   jobs_gone builders config winners sourced id winner r.0
-                  (λ row f. beside_no_other (create_row builders config winners winner.path) (id_of job)
-                  (ap (created_ids winner.path) (are_free winner r.0).one) row (ap (λ (w : JobId). w.source) f ∙ sym r.1) (λ g. other (g ∙ f)))
+                  (λ row f. beside_no_other (create_row builders config winners winner.path) row (ap (λ (w : JobId). w.source) f ∙ sym r.1)
+                  (λ one has same. let its = job_created winner.path (created builders (create_from builders config winners winner.path)) one has in other its.0 its.1 (its.2 ∙ same ∙ f)))
                   (λ stands. jobs_then_stay config winners tables id winner e ∙ no_other_row winner r.0 id r.1 other (standing winner r.0 stands))
 
           pub job_at_last : AreJobInputs builders config winners → (id : JobId) → job_row_at with_all_jobs id ≡ option_map (free_row builders config winners) (job_at (all_jobs builders config winners) id)

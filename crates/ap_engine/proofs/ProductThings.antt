@@ -28,7 +28,7 @@ use Rattle.ap_text.specs.declared.job_id.JobId.{JobId}
 use Rattle.ap_rows.specs.declared.row.JobResult.TheVariants.{Processed}
 use Rattle.ap_rows.specs.declared.row.OutcomeRow.TheVariants.{Done as DoneRow}
 use Rattle.ap_db.specs.States.{JobIs}
-use Rattle.ap_engine.specs.declared.processing.SourceJob.{SourceJob}
+use Rattle.ap_engine.specs.declared.jobs.SourceJob.{SourceJob}
 use Rattle.ap_db.specs.declared.db.Db.{Db}
 use Rattle.std.specs.Prelude.{Option}
 use Rattle.ap_engine.proofs.Formed.{input_formed, products_formed}

@@ -1,6 +1,6 @@
--- What is put for a needed creation that comes to one free job.
+-- What is put for a needed creation that comes to free jobs.
 use Rattle.std.proofs.Common.{◌≡◌, ◌≤◌, ℕ, suc, Bool, true, false, cond, ◌&&◌, List, [], ◌∷◌, length, Contains, Option, refl, sym, ◌∙◌, ap, subst, All, arith, ⊎_elim}
-use Rattle.std.specs.List.{list_all, filter}
+use Rattle.std.specs.List.{AllByRecursion, list_all, filter}
 use Rattle.std.proofs.lemmas.List.Elements.{All-filter, All-map}
 use Rattle.ap_text.specs.NameRules.{IsPlatform}
 use Rattle.ap_text.specs.PathRules.{IsRelPath}
@@ -23,7 +23,7 @@ use Rattle.ap_db.specs.States.{CreateIs}
 use Rattle.ap_db.specs.Stored.{Stored}
 use Rattle.ap_sources.specs.Sources.{matching, sources}
 use Rattle.ap_create.specs.Creation.{create_from, created}
-use Rattle.ap_engine.specs.Worlds.{IsOneFreeJob, AreQuiet}
+use Rattle.ap_engine.specs.Worlds.{AreFreeJobs, AreQuiet}
 use Rattle.ap_engine.specs.Interned.{IsSourceOf, AreSourcesOf}
 use Rattle.ap_engine.specs.declared.source.Source.{Source}
 use Rattle.ap_engine.specs.Goods.{IsGoodCreate}
@@ -65,6 +65,10 @@ in_ranges config builders few_builders platforms few_platforms path bytes is_pat
 
 -- ---- the row
 
+free_is_folded : (jobs : List JobDesc) → AllByRecursion (λ job. job.deps ≡ []) jobs → is_folded_created (Jobs jobs) ≡ true
+free_is_folded [] free = refl
+free_is_folded (job ∷ jobs) free = λ i. list_all is_folded_dependency (free.0 i) && free_is_folded jobs free.1 i
+
 module _ (builders : Meanings) (config : Config) (winners : List Winner) {D : Type 0} (seen : D → Option (List ℕ)) (may_leave : D → List ℕ → Type 0) (room : D → ℕ)
     (db : Db) (contents : List (Option Entry)) (store : D × D) (stored : Stored) (needed : NeededCreation) (winner : Winner)
     (to_put : AreToPut builders config winners seen may_leave room db contents store stored (needed ∷ []) (winner ∷ [])) where
@@ -86,17 +90,17 @@ module _ (builders : Meanings) (config : Config) (winners : List Winner) {D : Ty
   asked_is = let of = to_put.each.0.of in
       ap (λ path. plain_from config path of.bytes) of.path ∙ sym (from_is_plain builders config winners to_put.quiet winner is_source of.bytes of.seen)
 
-  pub not_free : (IsOneFreeJob (created builders (plain_from config needed.source.now.path its_bytes)) → ⊥) → IsFree builders config winners winner → ⊥
-  not_free refused free = refused (subst (λ from. IsOneFreeJob (created builders from)) (sym asked_is) free)
+  pub not_free : (AreFreeJobs (created builders (plain_from config needed.source.now.path its_bytes)) → ⊥) → IsFree builders config winners winner → ⊥
+  not_free refused free = refused (subst (λ from. AreFreeJobs (created builders from)) (sym asked_is) free)
 
-  module _ (job : JobDesc) (came : (created builders (plain_from config needed.source.now.path its_bytes) ≡ Jobs (job ∷ [])) × (job.deps ≡ [])) where
-    came_to : created builders (create_from builders config winners winner.path) ≡ Jobs (job ∷ [])
+  module _ (jobs : List JobDesc) (came : (created builders (plain_from config needed.source.now.path its_bytes) ≡ Jobs jobs) × AllByRecursion (λ job. job.deps ≡ []) jobs) where
+    came_to : created builders (create_from builders config winners winner.path) ≡ Jobs jobs
     came_to = ap (created builders) (sym asked_is) ∙ came.0
 
     pub is_free : IsFree builders config winners winner
-    is_free = record { job = job; one = came_to; free = came.1 }
+    is_free = record { jobs = jobs; are = came_to; free = came.1 }
 
-    pub row_is : (row : CreateRow) → row ≡ record { source = needed.source.now.path; input = needed.input; created = Jobs (job ∷ []) } → CreateIs (Stands contents) row (create_row builders config winners winner.path)
+    pub row_is : (row : CreateRow) → row ≡ record { source = needed.source.now.path; input = needed.input; created = Jobs jobs } → CreateIs (Stands contents) row (create_row builders config winners winner.path)
     row_is row is = subst (λ (row : CreateRow). CreateIs (Stands contents) row (create_row builders config winners winner.path)) (sym is)
         (record { source = to_put.each.0.of.path; input = to_put.each.0.input.stands; created = sym came_to })
 
@@ -104,7 +108,7 @@ module _ (builders : Meanings) (config : Config) (winners : List Winner) {D : Ty
     row_good = record {
       folded = to_put.quiet.folded winner (source_wins builders config winners to_put.quiet winner is_source);
       input = create_formed (create_from builders config winners winner.path) (to_put.typed winner is_source);
-      created = ap is_folded_created came_to ∙ ap (λ deps. list_all is_folded_dependency deps && true) came.1;
+      created = ap is_folded_created came_to ∙ free_is_folded jobs came.1;
     }
 
 -- ---- all sources

@@ -7,7 +7,8 @@ use Rattle.std.specs.List.Sorted.{IsStrictlySortedBy}
 use Rattle.std.specs.Cmp.Lexicographic.{nat_list_cmp_total}
 use Rattle.std.proofs.lemmas.List.Sums.{fold-append}
 use Rattle.std.proofs.lemmas.Slice.Eq.{bytes_eq-Decides}
-use Rattle.ap_text.specs.Order.{bytes_cmp}
+use Rattle.std.specs.Ordering.{on}
+use Rattle.ap_text.specs.Order.{bytes_cmp, in_order}
 use Rattle.ap_text.specs.JobOrder.{job_cmp, job_total, same_job}
 use Rattle.ap_config.specs.declared.config.Config.{Config}
 use Rattle.ap_scan.specs.declared.results.Winner.{Winner}
@@ -33,7 +34,6 @@ use Rattle.ap_sources.specs.Sources.{matching, is_some_item}
 use Rattle.ap_engine.proofs.LookUps.{one_table}
 use Rattle.ap_engine.proofs.MappedLists.{find_image, all_chosen, same_images_joined, same_choice, keys_of_images}
 use Rattle.ap_engine.proofs.Quiet.{paths_rise}
-use Rattle.ap_engine.proofs.FreeJobs.{all_jobs_in_order}
 use Rattle.ap_engine.proofs.FreeVerdicts.{free_row, free_job_row}
 use Rattle.ap_engine.proofs.StayRising.{all_rise}
 use Rattle.ap_engine.proofs.SourcePhase.{folders_then, folders_unchanged, sources_then}
@@ -119,11 +119,10 @@ module _ (builders : Meanings) (config : Config) (winners : List Winner) (quiet 
   module _ (tables : PlainTables) (sound : AreSoundTables builders tables) where
     -- the jobs of the recorded creations are then all jobs
     pub all_jobs_recorded : recorded_jobs (sources config winners) (with_creations builders config winners tables) ≡ all_jobs builders config winners
-    all_jobs_recorded = same_images_joined
+    all_jobs_recorded = ap (in_order (on id_of job_cmp)) (same_images_joined
         (λ winner. jobs_recorded winner.path (create_row_at (with_creations builders config winners tables) winner.path))
         (λ winner. jobs_of winner.path (created builders (create_from builders config winners winner.path))) (sources config winners)
-        (λ winner is. ap (jobs_recorded winner.path) (creation_of_source builders config winners quiet (with_folder_rows builders config winners tables) (sound_with_folder_rows builders config winners tables sound) inputs winner is))
-        ∙ sym (all_jobs_in_order builders config winners are_free quiet)
+        (λ winner is. ap (jobs_recorded winner.path) (creation_of_source builders config winners quiet (with_folder_rows builders config winners tables) (sound_with_folder_rows builders config winners tables sound) inputs winner is)))
 
     -- ---- what is asked for
 

@@ -11,9 +11,8 @@ use Rattle.ap_text.specs.Order.{bytes_cmp, in_order}
 use Rattle.ap_text.proofs.Members.{Contains-none, Contains-cons_cases, Contains-head, Contains-tail_of, Contains-map_cases}
 use Rattle.ap_config.specs.declared.config.Config.{Config}
 use Rattle.ap_scan.specs.declared.results.Winner.{Winner}
-use Rattle.ap_rows.specs.Jobs.{Job, id_of, jobs_of, is_job}
+use Rattle.ap_rows.specs.Jobs.{Job}
 use Rattle.ap_builder.specs.Meanings.{Meanings}
-use Rattle.ap_graph.proofs.IdOrder.{same_job-Decides}
 use Rattle.ap_graph.proofs.CycleTest.{Contains-flat_map_cases}
 use Rattle.ap_db.specs.Tables.{PlainSource, PlainCreate, PlainTables}
 use Rattle.ap_db.specs.Changes.{Whole, put_folders, put_source, remove_source, put_create, put_job, after, after_all, source_row_at}
@@ -29,7 +28,8 @@ use Rattle.ap_engine.specs.Changes.{source_change, put_of, folder_changes, sourc
 use Rattle.ap_engine.specs.Stops.{IsFrontOf}
 use Rattle.ap_engine.specs.Worlds.{AreQuiet, AreFree, AreCreateInputs, AreJobInputs}
 use Rattle.ap_engine.proofs.LookUps.{found_there}
-use Rattle.ap_engine.proofs.FreeJobs.{job_of_source, is_the_job}
+use Rattle.ap_engine.proofs.FreeJobs.{jobs_at, job_of_source, source_is}
+use Rattle.ap_engine.proofs.JobIds.{is_id_of}
 use Rattle.ap_engine.proofs.FreeVerdicts.{free_row, free_job_row}
 use Rattle.ap_engine.proofs.Steps.{kept_by_fronts, fronts_joined, fronts_of_front}
 use Rattle.ap_engine.proofs.StayRising.{fronts_rise}
@@ -156,16 +156,13 @@ module _ (builders : Meanings) (config : Config) (winners : List Winner) (quiet 
       its_creation : (job : Job) → Contains (all_jobs builders config winners) job → HasCreation (with_creations builders config winners tables) (free_row builders config winners job)
       its_creation job has =
           let of = job_of_source builders config winners job has in
-          let one : Job = record { source = of.winner.path; desc = (are_free of.winner of.is).job } in
-          let is : one ≡ job = is_the_job builders config winners are_free of.winner of.is job of.among in
           let there = found_there bytes_cmp nat_list_cmp_total bytes_eq bytes_eq-Decides (λ (row : PlainCreate). row.source) (with_creations builders config winners tables).creates of.winner.path
           (create_row builders config winners of.winner.path) (creation_of_source builders config winners quiet (with_folder_rows builders config winners tables) sound_then inputs of.winner of.is) in
           record {
             create = create_row builders config winners of.winner.path;
             there = there.0;
-            same = ap (λ (w : Job). w.source) is;
-            among = ap (λ answer. is_job (jobs_of of.winner.path answer) (id_of job)) (are_free of.winner of.is).one
-                ∙ ap (λ b. is_some (cond b (Some one) None)) ((same_job-Decides (id_of one) (id_of job)).1 (ap id_of is));
+            same = sym (source_is builders config winners of.winner job of.among);
+            among = is_id_of (jobs_at builders config winners of.winner) job of.among;
           }
 
       job_step : (change : Whole) → Contains (job_changes builders config winners (with_creations builders config winners tables)) change

@@ -1,6 +1,6 @@
 -- What is asked of the builders of a source that names nothing, and what their answers come to.
-use Rattle.std.specs.Prelude.{◌≡◌, ℕ, Bool, true, false, ◌==◌, List, [], ◌∷◌, ◌++◌, map, filter, not, Contains, Option, Some, None, option_map}
-use Rattle.std.specs.List.{flat_map}
+use Rattle.std.specs.Prelude.{◌≡◌, ℕ, Bool, true, false, ◌==◌, List, [], ◌∷◌, ◌++◌, map, filter, not, ◌&&◌, Contains, Option, Some, None, option_map}
+use Rattle.std.specs.List.{flat_map, list_all, list_any}
 use Rattle.ap_text.specs.declared.seen.Seen.TheVariants.{Bytes}
 use Rattle.ap_content.specs.Things.{Thing, bytes_thing}
 use Rattle.ap_content.specs.Entries.{Entry as ContentEntry}
@@ -28,10 +28,10 @@ use Rattle.ap_db.specs.Stored.{Stored}
 use Rattle.ap_db.specs.Tables.{PlainCreate, PlainTables}
 use Rattle.ap_db.specs.Changes.{Whole, put_create}
 use Rattle.ap_sources.specs.Sources.{matching, sources}
-use Rattle.ap_create.specs.Creation.{create_from, create_input_of, created}
+use Rattle.ap_create.specs.Creation.{create_from, create_input_of, created, same_slot}
 use Rattle.ap_engine.specs.Need.{is_of_input, creation_stands, creates_of}
 use Rattle.ap_engine.specs.Settled.{create_row}
-use Rattle.ap_engine.specs.Worlds.{IsOneFreeJob, AreQuiet}
+use Rattle.ap_engine.specs.Worlds.{AreFreeJobs, AreQuiet}
 use Rattle.ap_engine.specs.Ledgers.{IsHeld, IsReady}
 use Rattle.ap_engine.specs.Interned.{IsSourceOf}
 use Rattle.ap_engine.specs.declared.source.Source.{Source}
@@ -73,15 +73,24 @@ abbrev pub all_joined : List CreateAnswer → Option (List JobDesc)
 all_joined [] = Some []
 all_joined (answer ∷ answers) = joined answer (all_joined answers)
 
--- the one job, where it depends on nothing
-abbrev pub if_free : JobDesc → List DependencyRow → Option JobDesc
-if_free job [] = Some job
-if_free job (dep ∷ deps) = None
+-- there are no dependencies
+abbrev pub are_none : List DependencyRow → Bool
+are_none [] = true
+are_none (dep ∷ deps) = false
 
-abbrev pub only_free_job : List JobDesc → Option JobDesc
-only_free_job [] = None
-only_free_job (job ∷ []) = if_free job job.deps
-only_free_job (job ∷ more ∷ jobs) = None
+-- none of the jobs depends on anything
+abbrev pub all_free : List JobDesc → Bool
+all_free jobs = list_all (λ job. are_none job.deps) jobs
+
+-- no two of them have one key and platform
+abbrev pub all_apart : List JobDesc → Bool
+all_apart [] = true
+all_apart (job ∷ jobs) = not (list_any (same_slot job) jobs) && all_apart jobs
+
+-- the jobs, where none depends on anything
+abbrev pub if_free : List JobDesc → Bool → Option (List JobDesc)
+if_free jobs true = Some jobs
+if_free jobs false = None
 
 -- ---- which creations are needed
 
@@ -119,9 +128,9 @@ module _ (builders : Meanings) (config : Config) (winners : List Winner) where
   abbrev pub asked_of : List Winner → List Entry
   asked_of asked = flat_map (λ winner. creates_of builders config winners winner.path) asked
 
-  -- its creation comes to one free job
+  -- its creation comes to free jobs
   abbrev pub IsFree : Winner → Type 0
-  IsFree winner = IsOneFreeJob (created builders (create_from builders config winners winner.path))
+  IsFree winner = AreFreeJobs (created builders (create_from builders config winners winner.path))
 
   module _ {D : Type 0} (seen : D → Option (List ℕ)) (may_leave : D → List ℕ → Type 0) (room : D → ℕ) where
     -- beside a ready store, creations that are needed of these sources, whose create inputs are read back

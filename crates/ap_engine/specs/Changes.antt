@@ -1,10 +1,12 @@
 -- The whole changes of a run, phase by phase.
 use Rattle.std.specs.Prelude.{ℕ, not, List, [], ◌∷◌, ◌++◌, map, filter, find, Option, Some, None, if◌then◌else◌, bytes_eq}
 use Rattle.std.specs.List.{flat_map}
+use Rattle.std.specs.Ordering.{on}
+use Rattle.ap_text.specs.JobOrder.{job_cmp}
 use Rattle.ap_text.specs.Order.{bytes_cmp, in_order}
 use Rattle.ap_config.specs.declared.config.Config.{Config}
 use Rattle.ap_scan.specs.declared.results.Winner.{Winner}
-use Rattle.ap_rows.specs.Jobs.{Job, jobs_of}
+use Rattle.ap_rows.specs.Jobs.{Job, id_of, jobs_of}
 use Rattle.ap_builder.specs.Meanings.{Meanings}
 use Rattle.ap_db.specs.Tables.{PlainSource, PlainCreate, PlainJob, PlainTables}
 use Rattle.ap_db.specs.Changes.{Whole, put_folders, put_source, remove_source, put_create, put_job, after_all, source_row_at, create_row_at}
@@ -31,9 +33,9 @@ abbrev pub jobs_recorded : List ℕ → Option PlainCreate → List Job
 jobs_recorded path None = []
 jobs_recorded path (Some row) = jobs_of path row.created
 
--- the jobs of the recorded creations of sources
+-- the jobs of the recorded creations of sources, by job id
 abbrev pub recorded_jobs : List Winner → PlainTables → List Job
-recorded_jobs sources tables = flat_map (λ winner. jobs_recorded winner.path (create_row_at tables winner.path)) sources
+recorded_jobs sources tables = in_order (on id_of job_cmp) (flat_map (λ winner. jobs_recorded winner.path (create_row_at tables winner.path)) sources)
 
 module _ (config : Config) (winners : List Winner) where
   -- the folder rows, where they differ

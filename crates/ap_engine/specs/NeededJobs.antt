@@ -1,6 +1,12 @@
 -- The jobs of recorded creations as code has them, and those whose results are still to be asked for.
 use Rattle.std.specs.Prelude.{◌≡◌, ℕ, Bool, true, false, not, ◌==◌, List, [], ◌∷◌, length, map, filter, find, bytes_eq, Option, Some, None, IsTrue, option_and_then}
+use Rattle.std.specs.List.{flat_map, AllByRecursion}
+use Rattle.std.specs.List.Sorted.{IsStrictlySortedBy}
+use Rattle.std.specs.declared.cmp.Ordering.{Ordering}
+use Rattle.std.specs.Ordering.{on}
 use Rattle.ap_text.specs.declared.job_id.JobId.{JobId}
+use Rattle.ap_text.specs.JobOrder.{job_cmp}
+use Rattle.ap_text.specs.Order.{put_in_order}
 use Rattle.ap_text.specs.PathRules.{IsRelPath}
 use Rattle.ap_text.specs.NameRules.{IsName, IsPlatform}
 use Rattle.ap_content.specs.Things.{bytes_thing}
@@ -30,28 +36,29 @@ use Rattle.ap_builder.specs.declared.work.JobInput.{JobInput}
 use Rattle.ap_builder.specs.declared.work.Outcome.{Outcome}
 use Rattle.ap_builder.specs.declared.work.Outcome.TheVariants.{Done}
 use Rattle.ap_db.specs.declared.db.Db.{Db}
+use Rattle.ap_db.specs.Listed.{AreAll}
 use Rattle.ap_db.specs.Tables.{processed, PlainJob, PlainTables}
 use Rattle.ap_db.specs.Changes.{Whole, put_job, job_row_at}
 use Rattle.ap_engine.specs.declared.source.Source.{Source}
-use Rattle.ap_engine.specs.declared.processing.SourceJob.{SourceJob}
+use Rattle.ap_engine.specs.declared.jobs.SourceJob.{SourceJob}
 use Rattle.ap_engine.specs.declared.processing.NeededJob.{NeededJob}
 use Rattle.ap_engine.specs.Settled.{plain_outcome}
 use Rattle.ap_engine.specs.Need.{records_input}
 use Rattle.ap_engine.specs.Ledgers.{IsHeld}
-use Rattle.ap_engine.specs.Asked.{only_free_job}
+use Rattle.ap_engine.specs.Asked.{all_free, if_free}
 
--- ---- the job that a creation recorded
+-- ---- the jobs that a creation recorded
 
--- the one job of a creation, where it depends on nothing
-abbrev pub free_job_in : Created → Option JobDesc
-free_job_in (Jobs jobs) = only_free_job jobs
-free_job_in (Builder builder code) = None
-free_job_in (DuplicateKey key platform) = None
-free_job_in TooLarge = None
+-- the jobs of a creation, where none depends on anything
+abbrev pub free_jobs_in : Created → Option (List JobDesc)
+free_jobs_in (Jobs jobs) = if_free jobs (all_free jobs)
+free_jobs_in (Builder builder code) = None
+free_jobs_in (DuplicateKey key platform) = None
+free_jobs_in TooLarge = None
 
 -- and of the row of a path
-abbrev pub job_recorded : List CreateRow → List ℕ → Option JobDesc
-job_recorded rows path = option_and_then (λ row. free_job_in row.created) (find (λ row. bytes_eq row.source path) rows)
+abbrev pub jobs_recorded : List CreateRow → List ℕ → Option (List JobDesc)
+jobs_recorded rows path = option_and_then (λ row. free_jobs_in row.created) (find (λ row. bytes_eq row.source path) rows)
 
 -- the job of a source that is described so
 abbrev pub job_from : Source → JobDesc → SourceJob
@@ -66,12 +73,31 @@ pub record IsTypedJob (job : SourceJob) : Type 0 where
   pub params : Fits64 (length job.desc.params)
   pub path : IsRelPath job.id.source
 
--- the job that these rows record of a source
-pub record IsFoundIn (rows : List CreateRow) (job : SourceJob) (source : Source) : Type 0 where
-  pub desc : JobDesc
-  pub recorded : job_recorded rows source.path ≡ Some desc
-  pub is : job ≡ job_from source desc
-  pub typed : IsTypedJob job
+-- jobs by their ids
+abbrev pub by_id : SourceJob → SourceJob → Ordering
+by_id = on (λ job. job.id) job_cmp
+
+-- they rise by their ids
+abbrev pub SourceJobsRise : List SourceJob → Type 0
+SourceJobsRise jobs = IsStrictlySortedBy job_cmp (map (λ job. job.id) jobs)
+
+-- jobs with others put among them in order, the last first
+abbrev pub put_all : List SourceJob → List SourceJob → List SourceJob
+put_all [] jobs = jobs
+put_all (job ∷ more) jobs = put_in_order by_id job (put_all more jobs)
+
+-- the jobs that these rows record of a source, by job id
+pub record AreFoundIn (rows : List CreateRow) (jobs : List SourceJob) (source : Source) : Type 0 where
+  pub descs : List JobDesc
+  pub recorded : jobs_recorded rows source.path ≡ Some descs
+  pub are : jobs ≡ put_all (map (job_from source) descs) []
+  pub typed : AllByRecursion IsTypedJob jobs
+
+-- the jobs of these sources, one source after another
+pub record AreAllFoundIn (rows : List CreateRow) (jobs : List SourceJob) (sources : List Source) : Type 0 where
+  pub parts : List (List SourceJob)
+  pub joined : jobs ≡ flat_map (λ part. part) parts
+  pub each : AreAll (AreFoundIn rows) parts sources
 
 -- ---- what a job is made from
 

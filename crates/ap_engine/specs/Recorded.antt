@@ -17,7 +17,7 @@ use Rattle.ap_engine.specs.declared.source.Source.{Source}
 use Rattle.ap_engine.specs.Verdict.{made_from}
 use Rattle.ap_engine.specs.Need.{job_stands}
 use Rattle.ap_engine.specs.Interned.{AreSourcesOf}
-use Rattle.ap_engine.specs.Worlds.{AreQuiet, IsOneFreeJob}
+use Rattle.ap_engine.specs.Worlds.{AreQuiet, AreFreeJobs}
 use Rattle.ap_engine.specs.NeededJobs.{IsOneProduct}
 
 -- the row of a source's creation has what is created from it
@@ -44,11 +44,11 @@ open_jobs builders config winners tables = filter (λ job. not (job_stands build
 abbrev pub MakesOne : Meanings → Config → List Winner → Job → Type 0
 MakesOne builders config winners job = IsOneProduct (builders.makes (job_view (made_from builders config winners job [])))
 
--- a source came to anything but one job that depends on nothing
+-- a source came to anything but jobs that depend on nothing
 pub record IsUnfree (builders : Meanings) (config : Config) (winners : List Winner) : Type 0 where
   pub winner : Winner
   pub is : Contains (sources config winners) winner
-  pub other : ¬ IsOneFreeJob (created builders (create_from builders config winners winner.path))
+  pub other : ¬ AreFreeJobs (created builders (create_from builders config winners winner.path))
 
 -- a builder makes anything but one product of a job whose result doesn't stand
 pub record IsUnmade (builders : Meanings) (config : Config) (winners : List Winner) (tables : PlainTables) : Type 0 where

@@ -1,5 +1,6 @@
--- The projects that a run settles today: sources with bytes that name nothing, each with one job that depends on nothing.
-use Rattle.std.specs.Prelude.{◌≡◌, ℕ, true, List, [], ◌∷◌, Contains}
+-- The projects that a run settles today: sources with bytes that name nothing, each with jobs that depend on nothing.
+use Rattle.std.specs.Prelude.{◌≡◌, ℕ, true, List, [], Contains}
+use Rattle.std.specs.List.{AllByRecursion}
 use Rattle.std.specs.List.Sorted.{IsStrictlySortedBy}
 use Rattle.std.specs.Ordering.{on}
 use Rattle.ap_text.specs.Order.{bytes_cmp}
@@ -22,11 +23,11 @@ pub record IsRead (winner : Winner) : Type 0 where
   pub bytes : List ℕ
   pub seen : winner.seen ≡ Bytes bytes
 
--- a creation came to one job that depends on nothing
-pub record IsOneFreeJob (created : Created) : Type 0 where
-  pub job : JobDesc
-  pub one : created ≡ Jobs (job ∷ [])
-  pub free : job.deps ≡ []
+-- a creation came to jobs that depend on nothing
+pub record AreFreeJobs (created : Created) : Type 0 where
+  pub jobs : List JobDesc
+  pub are : created ≡ Jobs jobs
+  pub free : AllByRecursion (λ job. job.deps ≡ []) jobs
 
 -- the winners rise by path, each is read, their paths are folded, and no source names anything
 pub record AreQuiet (builders : Meanings) (config : Config) (winners : List Winner) : Type 0 where
@@ -35,10 +36,10 @@ pub record AreQuiet (builders : Meanings) (config : Config) (winners : List Winn
   pub folded : (winner : Winner) → Contains winners winner → is_folded winner.path ≡ true
   pub untargeted : (winner : Winner) → Contains (sources config winners) winner → targets builders config winners winner.path ≡ []
 
--- each source has one job that depends on nothing
+-- each source has jobs that depend on nothing
 abbrev pub AreFree : Meanings → Config → List Winner → Type 0
 AreFree builders config winners = (winner : Winner) → Contains (sources config winners) winner
-    → IsOneFreeJob (created builders (create_from builders config winners winner.path))
+    → AreFreeJobs (created builders (create_from builders config winners winner.path))
 
 -- what creations are made from has names, paths and numbers in their ranges, so that it is read back
 abbrev pub AreCreateInputs : Meanings → Config → List Winner → Type 0

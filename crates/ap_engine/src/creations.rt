@@ -1,6 +1,6 @@
 //! The phase of a run that asks builders to create the jobs of sources, and commits what they create.
 ghost use Rattle.std.specs.Prelude.{◌≡◌, ◌⊎◌, ◌++◌, ◌∷◌, [], ℕ, List, length, map, true, Contains, ◌<◌, ◌+◌, All, IsTrue, IfOk, IfErr, OnOk, OnErr, Option, Some, None, find, bytes_eq};
-ghost use Rattle.std.specs.List.{AllByRecursion};
+ghost use Rattle.std.specs.List.{AllByRecursion, list_any};
 ghost use Rattle.ap_text.specs.Causes.{Rose};
 ghost use Rattle.ap_text.specs.NameRules.{IsPlatform};
 ghost use Rattle.ap_text.specs.PathRules.{IsRelPath};
@@ -26,18 +26,19 @@ ghost use Rattle.ap_scan.specs.declared.results.Winner.{Winner};
 ghost use Rattle.ap_builder.specs.Meanings.{Meanings};
 ghost use Rattle.ap_db.specs.Listed.{AreAll};
 ghost use Rattle.ap_sources.specs.Sources.{matching, sources};
-ghost use Rattle.ap_create.specs.Creation.{create_from, created};
+ghost use Rattle.ap_create.specs.Creation.{create_from, created, same_slot};
 ghost use Rattle.ap_engine.specs.Changes.{create_changes};
 ghost use Rattle.ap_engine.specs.declared.fault.EngineFault.TheVariants.{Db, Unbuilt};
 ghost use Rattle.ap_engine.specs.declared.source.Source.{Source};
 ghost use Rattle.ap_engine.specs.Ledgers.{IsBeside, IsHeld, StayHeld, IsReady, HasCommitted, HasStopped};
-ghost use Rattle.ap_engine.specs.Worlds.{IsOneFreeJob, AreQuiet};
+ghost use Rattle.ap_engine.specs.Worlds.{AreFreeJobs, AreQuiet};
 ghost use Rattle.ap_engine.specs.Interned.{AreSourcesOf};
 ghost use Rattle.ap_engine.specs.declared.creations.NeededCreation.{NeededCreation};
-ghost use Rattle.ap_engine.specs.Asked.{meanings_of, is_of_number, AreNeeds, HasHeldBytes, needed_sources, IsNeeded, AreToPut, puts_of, asked_of, IsFree, versions_of, plain_from, answers_of, entries_of, all_joined, only_free_job};
+ghost use Rattle.ap_engine.specs.Asked.{meanings_of, is_of_number, AreNeeds, HasHeldBytes, needed_sources, IsNeeded, AreToPut, puts_of, asked_of, IsFree, versions_of, plain_from, answers_of, entries_of, all_joined, all_apart};
 
 use crate::copying::copy_bytes;
 use crate::fault::EngineFault;
+use crate::jobs::are_free;
 use crate::ledger::Ledger;
 use crate::source::Source;
 use ap_builder::{Bench, Builders, CreateAnswer, CreateInput, Entry, JobDesc};
@@ -109,15 +110,34 @@ fn copy_platforms(alloc: Global, platforms: &[Platform]) -> Result<Vec<Platform>
     Ok(copies)
 }
 
-/// The one job, where there is just one and it depends on nothing.
-fn only_job(mut jobs: Vec<JobDesc>) -> Option<JobDesc>
-    ensures { result ≡ only_free_job jobs.items }
+/// Whether two jobs have one key and platform.
+fn is_same_slot(job: &JobDesc, other: &JobDesc) -> bool
+    ensures { result ≡ same_slot job.now other.now }
 {
-    let job = jobs.pop()?;
-    if !jobs.is_empty() || !job.deps.as_slice().is_empty() {
-        return None;
+    job.key.as_slice() == other.key.as_slice()
+        && job.platform.as_slice() == other.platform.as_slice()
+}
+
+/// Whether one of these jobs has the key and platform of this one.
+fn has_slot(job: &JobDesc, others: &[JobDesc]) -> bool
+    ensures { result ≡ list_any (same_slot job.now) others.now }
+{
+    others.iter().any(|other| is_same_slot(job, other))
+}
+
+/// Whether no two of the jobs have one key and platform. Each is compared with those behind it: the jobs of one
+/// source are few.
+fn are_apart(jobs: &[JobDesc]) -> bool
+    ensures { result ≡ all_apart jobs.now }
+{
+    let mut rest = jobs;
+    while let [job, after @ ..] = rest {
+        if has_slot(job, after) {
+            return false;
+        }
+        rest = after;
     }
-    Some(job)
+    true
 }
 
 /// Puts the jobs behind others.
@@ -201,8 +221,8 @@ fn input_of(
     })
 }
 
-/// Asks the builders that match a source for its jobs, and gives the one that depends on nothing; `Unbuilt` where
-/// they come to anything else.
+/// Asks the builders that match a source for its jobs, and gives them where none depends on anything; `Unbuilt`
+/// where they come to anything else.
 fn ask<B: Builders>(
     alloc: Global,
     ledger: &Ledger,
@@ -210,14 +230,14 @@ fn ask<B: Builders>(
     bench: &mut Bench<B::Pass>,
     config: &Config,
     source: &Source,
-) -> Result<JobDesc, EngineFault>
+) -> Result<Vec<JobDesc>, EngineFault>
     requires offered { AllByRecursion (λ offer. IsTrue (is_offered (B.offers builders.now) offer.name)) config.now.builders }
     requires lives { Lives ledger.now.contents source.now.content }
-    ensures job { IfOk result (λ job. (bytes : List ℕ) → Stands ledger.now.contents source.now.content (bytes_thing bytes)
-        → (created (meanings_of B.declares B.creates B.makes) (plain_from config.now source.now.path bytes) ≡ CreatedJobs (job ∷ [])) × (job.deps ≡ [])) }
+    ensures jobs { IfOk result (λ jobs. (bytes : List ℕ) → Stands ledger.now.contents source.now.content (bytes_thing bytes)
+        → (created (meanings_of B.declares B.creates B.makes) (plain_from config.now source.now.path bytes) ≡ CreatedJobs jobs.items) × AllByRecursion (λ job. job.deps ≡ []) jobs.items) }
     ensures noted { OnOk result (bench.new ≡ bench.old ++ entries_of source.now.path (matching config.now source.now.path)) }
     ensures unbuilt { IfErr result (λ stop. stop ≡ Unbuilt → (bytes : List ℕ) → Stands ledger.now.contents source.now.content (bytes_thing bytes)
-        → ¬ IsOneFreeJob (created (meanings_of B.declares B.creates B.makes) (plain_from config.now source.now.path bytes))) }
+        → ¬ AreFreeJobs (created (meanings_of B.declares B.creates B.makes) (plain_from config.now source.now.path bytes))) }
     ensures only { IfErr result (λ stop. (stop ≡ Db OutOfMemory) ⊎ (stop ≡ Unbuilt)) }
 {
     let offers = matching_builders(alloc, config, &source.path)?;
@@ -226,9 +246,10 @@ fn ask<B: Builders>(
         Ok(jobs) => jobs,
         Err(stop) => return Err(stop),
     };
-    match only_job(jobs) {
-        Some(job) => Ok(job),
-        None => Err(EngineFault::Unbuilt),
+    if are_free(&jobs) && are_apart(&jobs) {
+        Ok(jobs)
+    } else {
+        Err(EngineFault::Unbuilt)
     }
 }
 
@@ -365,16 +386,14 @@ pub(crate) fn read_ranges(config: &Config, all: &[Source])
     read_paths(all);
 }
 
-/// The create row of a needed creation that comes to one job.
+/// The create row of a needed creation that comes to these jobs.
 fn creation_row(
     alloc: Global,
     creation: &NeededCreation<'_>,
-    job: JobDesc,
+    jobs: Vec<JobDesc>,
 ) -> Result<CreateRow, NoMemory>
-    ensures { IfOk result (λ row. row ≡ record { source = creation.now.source.now.path; input = creation.now.input; created = CreatedJobs (job ∷ []) }) }
+    ensures { IfOk result (λ row. row ≡ record { source = creation.now.source.now.path; input = creation.now.input; created = CreatedJobs jobs.items }) }
 {
-    let mut jobs = Vec::new(alloc);
-    jobs.push(job)?;
     Ok(CreateRow {
         source: creation.source.path.copy(alloc)?,
         input: creation.input,
@@ -382,7 +401,7 @@ fn creation_row(
     })
 }
 
-/// Asks for the job of a needed creation, and puts its create row.
+/// Asks for the jobs of a needed creation, and puts its create row.
 fn put_creation<D: Disk, B: Builders>(
     alloc: Global,
     ledger: &mut Ledger,
@@ -407,11 +426,11 @@ fn put_creation<D: Disk, B: Builders>(
     ensures disk { IfErr result (λ stop. stop ≡ Db DiskFault → Rose (D.faults store.old.0) (D.faults store.new.0)) }
     ensures only { IfErr result (λ stop. (stop ≡ Unbuilt) ⊎ (stop ≡ Db OutOfMemory) ⊎ (stop ≡ Db DiskFault) ⊎ ((l : ℕ) × (w : ℕ) × (stop ≡ Db (StoreFull l w)))) }
 {
-    let job = match ask(alloc, ledger, builders, bench, config, creation.source) {
-        Ok(job) => job,
+    let jobs = match ask(alloc, ledger, builders, bench, config, creation.source) {
+        Ok(jobs) => jobs,
         Err(stop) => return Err(stop),
     };
-    let row = match creation_row(alloc, creation, job) {
+    let row = match creation_row(alloc, creation, jobs) {
         Ok(row) => row,
         Err(_) => return Err(EngineFault::Db(DbFault::OutOfMemory)),
     };
@@ -459,7 +478,7 @@ fn put_each<D: Disk, B: Builders>(
     Ok(())
 }
 
-/// Asks the builders of each source whose create row doesn't record its create input for the source's one job,
+/// Asks the builders of each source whose create row doesn't record its create input for the source's jobs,
 /// and puts the create row of each before the next is asked for.
 pub(crate) fn put_creations<D: Disk, B: Builders>(
     alloc: Global,

@@ -65,7 +65,7 @@ impl Engine {
     }
 
     /// Brings the tables to what the configuration and its winners settle to: what stands is kept, and only what doesn't
-    /// is asked for; `Unbuilt` where a source comes to anything but one job that depends on nothing, or a job to
+    /// is asked for; `Unbuilt` where a source comes to anything but jobs that depend on nothing, or a job to
     /// anything but one product.
     pub fn settle<D: Disk, B: Builders>(
         &mut self,

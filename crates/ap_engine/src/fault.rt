@@ -9,7 +9,7 @@ use ap_db::DbFault;
 pub enum EngineFault {
     /// The database refuses it, or there is too little memory.
     Db(DbFault),
-    /// It needs what isn't built yet: a creation that comes to other than one job which depends on nothing, or a
+    /// It needs what isn't built yet: a creation that comes to other than jobs which depend on nothing, or a
     /// job that makes other than one product.
     Unbuilt,
 }

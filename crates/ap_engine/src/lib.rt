@@ -8,6 +8,7 @@ mod fault;
 mod folders;
 mod front;
 mod interning;
+mod jobs;
 mod jobs_of;
 mod ledger;
 mod processing;

@@ -27,141 +27,28 @@ ghost use Rattle.ap_engine.specs.Changes.{job_changes};
 ghost use Rattle.ap_engine.specs.Worlds.{AreFree, AreJobInputs};
 ghost use Rattle.ap_engine.specs.Asked.{meanings_of};
 ghost use Rattle.ap_engine.specs.Recorded.{AreThere, AreRecorded, open_jobs, MakesOne, IsUnfree, IsUnmade};
-ghost use Rattle.ap_engine.specs.NeededJobs.{free_job_in, job_recorded, job_from, IsTypedJob, IsFoundIn, made_of, id_from, IsJobOf, row_is_of, needed_in, IsNeededJob, IsOneProduct, IsFitProduct, row_under, row_with, row_made, puts_made, work_of, IsBuilt};
+ghost use Rattle.ap_engine.specs.NeededJobs.{made_of, id_from, IsJobOf, row_is_of, needed_in, IsNeededJob, IsOneProduct, IsFitProduct, row_under, row_with, row_made, puts_made, work_of, IsBuilt};
 
 use crate::copying::copy_bytes;
 use crate::creations::look_at_number;
 use crate::fault::EngineFault;
+use crate::jobs::{SourceJob, find_jobs};
 use crate::ledger::Ledger;
 use crate::source::Source;
-use ap_builder::{Bench, Builders, Entry, JobDesc, JobInput, LegacyRow, Outcome, Product, RefRow};
+use ap_builder::{Bench, Builders, Entry, JobInput, LegacyRow, Outcome, Product, RefRow};
 use ap_config::Config;
 use ap_content::{Node, Number};
 use ap_db::DbFault;
 use ap_disk::{Disk, Pair};
-use ap_rows::{
-    Created, JobParts, JobResult, JobRow, OutcomeRow, ProductRow, input_node, products_node,
-};
+use ap_rows::{JobParts, JobResult, JobRow, OutcomeRow, ProductRow, input_node, products_node};
 use ap_text::{JobId, List, OutOfMemory as NoMemory, RelPath};
 use std::alloc::Global;
-
-/// The one job of a source, with the number of the source's bytes.
-#[derive(Drop)]
-pub(crate) struct SourceJob {
-    id: JobId,
-    desc: JobDesc,
-    content: Number,
-}
 
 /// A job whose result doesn't stand, with the number of its input.
 #[derive(Drop)]
 pub(crate) struct NeededJob<'a> {
     job: &'a SourceJob,
     input: Number,
-}
-
-/// The one job of a creation, where it depends on nothing.
-fn only_job(created: &Created) -> Option<&JobDesc>
-    ensures { option_copied result ≡ free_job_in created.now }
-{
-    let Created::Jobs(jobs) = created else {
-        return None;
-    };
-    match jobs.as_slice() {
-        [job] => {
-            if job.deps.as_slice().is_empty() {
-                Some(job)
-            } else {
-                None
-            }
-        }
-        _ => None,
-    }
-}
-
-/// The job of a source that is described so.
-fn job_of(alloc: Global, source: &Source, desc: &JobDesc) -> Result<SourceJob, NoMemory>
-    ensures job { IfOk result (λ job. job ≡ job_from source.now desc.now) }
-{
-    Ok(SourceJob {
-        id: JobId {
-            source: source.path.copy(alloc)?,
-            key: desc.key.copy(alloc)?,
-            platform: desc.platform.copy(alloc)?,
-        },
-        desc: desc.copy(alloc)?,
-        content: source.content,
-    })
-}
-
-/// Looks at bytes, which are few enough to be counted.
-fn look_at_length(bytes: &[u8])
-    ensures { Fits64 (length bytes.now) }
-{
-    let _ = bytes.len();
-}
-
-/// Looks at the parts of a job, whose types keep them in their ranges.
-fn look_at_job(job: &SourceJob)
-    ensures { IsTypedJob job.now }
-{
-    let _ = job.desc.builder.as_slice();
-    let _ = job.desc.platform.as_slice();
-    let _ = job.desc.key.as_slice();
-    look_at_length(job.desc.params.as_slice());
-    look_at_number(job.desc.version);
-    let _ = job.id.source.as_slice();
-}
-
-/// The job that is recorded of a source; `Unbuilt` where its creation came to anything but one job that depends on
-/// nothing.
-fn find_job(alloc: Global, ledger: &Ledger, source: &Source) -> Result<SourceJob, EngineFault>
-    requires { IsDb ledger.now.db }
-    ensures job { IfOk result (λ job. IsFoundIn ledger.now.db.state.tables.creates.items job source.now) }
-    ensures unbuilt { IfErr result (λ stop. stop ≡ Unbuilt → job_recorded ledger.now.db.state.tables.creates.items source.now.path ≡ None) }
-    ensures only { IfErr result (λ stop. (stop ≡ Db OutOfMemory) ⊎ (stop ≡ Unbuilt)) }
-{
-    let Some(row) = ledger.db.creation(&source.path) else {
-        return Err(EngineFault::Unbuilt);
-    };
-    let Some(desc) = only_job(&row.created) else {
-        return Err(EngineFault::Unbuilt);
-    };
-    let job = job_of(alloc, source, desc)?;
-    look_at_job(&job);
-    Ok(job)
-}
-
-/// Puts a job behind these.
-fn add_job(jobs: &mut Vec<SourceJob>, job: SourceJob) -> Result<(), NoMemory>
-    ensures { OnOk result (jobs.new.items ≡ jobs.old.items ++ job ∷ []) }
-{
-    jobs.push(job)?;
-    Ok(())
-}
-
-/// The jobs that are recorded of the sources, in their order; `Unbuilt` where one's creation came to anything but
-/// one job that depends on nothing.
-fn find_jobs(
-    alloc: Global,
-    ledger: &Ledger,
-    sources: &[Source],
-) -> Result<Vec<SourceJob>, EngineFault>
-    requires { IsDb ledger.now.db }
-    ensures jobs { IfOk result (λ jobs. AreAll (IsFoundIn ledger.now.db.state.tables.creates.items) jobs.items sources.now) }
-    ensures unbuilt { IfErr result (λ stop. stop ≡ Unbuilt → (source : Source) × Contains sources.now source × (job_recorded ledger.now.db.state.tables.creates.items source.path ≡ None)) }
-    ensures only { IfErr result (λ stop. (stop ≡ Db OutOfMemory) ⊎ (stop ≡ Unbuilt)) }
-{
-    let mut jobs = Vec::new(alloc);
-    let mut rest = sources;
-    while let [source, after @ ..] = rest {
-        match find_job(alloc, ledger, source) {
-            Ok(job) => add_job(&mut jobs, job)?,
-            Err(stop) => return Err(stop),
-        }
-        rest = after;
-    }
-    Ok(jobs)
 }
 
 /// The number of a job's input, with a hold on it.
@@ -483,7 +370,7 @@ fn process_each<D: Disk, B: Builders>(
 }
 
 /// Asks for the products of the jobs whose rows don't record their inputs, and records each one before the next is
-/// asked for; `Unbuilt` where a source's creation came to anything but one job that depends on nothing, or a builder
+/// asked for; `Unbuilt` where a source's creation came to anything but jobs that depend on nothing, or a builder
 /// makes anything but one product of a job.
 pub(crate) fn put_jobs<D: Disk, B: Builders>(
     alloc: Global,

@@ -1,5 +1,6 @@
 //! Runs one after another over one store, and runs over the images of a stopped one.
-use super::{NONE, ROOM, has_files, left_by, pair};
+use super::projects::{EMPTY, Step, take_all};
+use super::{BATCH, Kept, NONE, ROOM, cache_of, has_files, left_by, pair, project};
 use ap_disk::{MemoryDisk, Pair, Side};
 use std::alloc::Global;
 use std::process::Abort;
@@ -7,80 +8,62 @@ use std::test::Fail;
 
 const FILLS: [u8; 4] = [0, 1, 7, 255];
 
-/// A run over a folder as it is then, the report, and the length of the store's file at its end.
-#[derive(Clone, Copy)]
-struct Turn {
-    tree: &'static [(&'static str, &'static str)],
-    output: &'static str,
-    length: usize,
-}
-
 const MADE_A: &str =
     "create copy a.txt\nprocess pc copy a.txt\nsources 1 jobs 1 done 1 published 1 shadowed 0 wrote 1 removed 0\nok\n";
 
+/// A project of one source.
+const ONE: Step = Step {
+    files: &[("game/a.txt", "1\n")],
+    output: MADE_A,
+    cache: &[("pc/a.txt", "1\n")],
+    length: 354,
+    ..EMPTY
+};
+
 /// One run after another over one store: nothing changed, a changed file, one with its older bytes again, one
 /// that is gone, and a new one beside it when it is there again.
-fn turns() -> [Turn; 6] {
+fn turns() -> [Step; 6] {
     [
-        Turn {
-            tree: &[("game/a.txt", "1\n")],
-            output: MADE_A,
-            length: 354,
-        },
-        Turn {
-            tree: &[("game/a.txt", "1\n")],
+        ONE,
+        Step {
             output: "sources 1 jobs 1 done 1 published 1 shadowed 0 wrote 1 removed 0\nok\n",
-            length: 354,
+            ..ONE
         },
-        Turn {
-            tree: &[("game/a.txt", "2\n")],
-            output: MADE_A,
+        Step {
+            files: &[("game/a.txt", "2\n")],
+            cache: &[("pc/a.txt", "2\n")],
             length: 707,
+            ..ONE
         },
-        Turn {
-            tree: &[("game/a.txt", "1\n")],
-            output: MADE_A,
+        Step {
             length: 1060,
+            ..ONE
         },
-        Turn {
-            tree: &[],
-            output: "sources 0 jobs 0 done 0 published 0 shadowed 0 wrote 0 removed 0\nok\n",
+        Step {
+            cache: &[("pc/a.txt", "1\n")],
             length: 1133,
+            ..EMPTY
         },
-        Turn {
-            tree: &[("game/b.txt", "1\n"), ("game/a.txt", "1\n")],
+        Step {
+            files: &[("game/b.txt", "1\n"), ("game/a.txt", "1\n")],
             output: "create copy a.txt\ncreate copy b.txt\nprocess pc copy a.txt\nprocess pc copy b.txt\nsources 2 jobs 2 done 2 published 2 shadowed 0 wrote 2 removed 0\nok\n",
+            cache: &[("pc/a.txt", "1\n"), ("pc/b.txt", "1\n")],
             length: 1755,
+            ..ONE
         },
     ]
 }
 
-/// That the next run over a store is this one.
-fn take_turn(
-    rt: &(impl Abort + AllocGlobal),
-    store: &mut Pair<MemoryDisk>,
-    turn: &Turn,
-) -> Result<(), Fail> {
-    let wanted = turn.output;
-    let left = left_by(rt, &["batch", "game"], turn.tree, &[], store, &NONE)?;
-    assert!(rt; left.status == 0, "{wanted}");
-    assert!(rt; left.output.as_slice() == wanted.as_bytes(), "{wanted}");
-    assert!(rt; left.cache.len() == turn.tree.len(), "{wanted}");
-    assert!(rt;
-        store.disk(Side::A).bytes().len() == turn.length,
-        "{wanted}"
-    );
-    Ok(())
-}
-
 #[test]
 fn later_runs_ask_for_what_differs(rt: HostRuntime) -> Result<(), Fail> {
-    let mut store = pair(&rt, b"", ROOM, None)?;
-    for turn in turns() {
-        take_turn(&rt, &mut store, &turn)?;
-    }
-    Ok(())
+    take_all(&rt, &turns())
 }
+
+/// The configuration of one folder each file of which is a source.
+const EACH: &str = "platforms = ['pc']
+folder = [{ order = 0, path = 'game' }]
+builder = [{ name = 'copy', patterns = ['*'] }]
+";
 
 const THREE: [(&str, &str); 3] = [("game/a", "1"), ("game/b", ""), ("game/c", "333")];
 
@@ -112,13 +95,22 @@ fn report(alloc: Global, kept: usize) -> Result<Vec<u8>, Fail> {
     Ok(text)
 }
 
-/// The bytes of the store after a first run over the three files, and the store.
-fn stored(rt: &(impl Abort + AllocGlobal)) -> Result<Pair<MemoryDisk>, Fail> {
-    let mut store = pair(rt, b"", ROOM, None)?;
-    let left = left_by(rt, &["batch", "game"], &THREE, &[], &mut store, &NONE)?;
-    assert!(rt; left.status == 0);
-    assert!(rt; store.disk(Side::A).bytes().len() == LENGTHS[9]);
-    Ok(store)
+/// What a run over the three files leaves, that begins with these bytes in the store's file and ends with this
+/// report.
+fn whole_from(
+    rt: &(impl Abort + AllocGlobal),
+    bytes: &[u8],
+    wanted: &[u8],
+) -> Result<Pair<MemoryDisk>, Fail> {
+    let mut kept = Kept {
+        cache: cache_of(rt, &[], None)?,
+        store: pair(rt, bytes, ROOM, None)?,
+    };
+    let files = project(rt.alloc(), EACH, &THREE)?;
+    let left = left_by(rt, BATCH, files, &mut kept, &NONE)?;
+    assert!(rt; left.status == 0 && left.output.as_slice() == wanted);
+    assert!(rt; has_files(kept.cache.files(), THREE_MADE));
+    Ok(kept.store)
 }
 
 /// One image of a disk, at a moment of its calls.
@@ -162,17 +154,7 @@ fn goes_on(
     let alloc = rt.alloc();
     let stopped = image(rt, alloc, whole, moment, fill)?;
     let kept = commits_in(&stopped, whole.bytes());
-    let wanted = report(alloc, kept)?;
-    let mut store = pair(rt, &stopped, ROOM, None)?;
-    let left = left_by(rt, &["batch", "game"], &THREE, &[], &mut store, &NONE)?;
-    assert!(rt;
-        left.status == 0 && left.output == wanted,
-        "moment {moment}, fill {fill}"
-    );
-    assert!(rt;
-        has_files(&left.cache, THREE_MADE),
-        "moment {moment}, fill {fill}"
-    );
+    let store = whole_from(rt, &stopped, &report(alloc, kept)?)?;
     assert!(rt;
         store.disk(Side::A).bytes() == whole.bytes(),
         "moment {moment}, fill {fill}"
@@ -182,8 +164,9 @@ fn goes_on(
 
 #[test]
 fn a_run_goes_on_from_each_moment(rt: HostRuntime) -> Result<(), Fail> {
-    let store = stored(&rt)?;
+    let store = whole_from(&rt, b"", &report(rt.alloc(), 0)?)?;
     let whole = store.disk(Side::A);
+    assert!(rt; whole.bytes().len() == LENGTHS[9]);
     let Some(end) = whole.clock() else {
         panic!(rt; "no clock is told");
     };

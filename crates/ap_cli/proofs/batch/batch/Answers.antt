@@ -1,213 +1,69 @@
-use Rattle.std.proofs.Common.{◌≡◌, inr, ⊎_elim, List, Ok, length, drop, ◌∙◌, ap}
+use Rattle.std.proofs.Common.{sym, subst, inl, inr}
+use Rattle.std.specs.Prelude.{Option, IfSome}
+use Rattle.std.proofs.lemmas.Result.{IfErr-weaker}
 use Rattle.ap_tree.specs.Changes.{TellsAs}
-use Rattle.ap_tree.specs.Written.{Gains}
-use Rattle.ap_builder.specs.declared.entry.Entry.{Entry}
-use Rattle.ap_journal.specs.Told.{one as each}
-use Rattle.ap_db.specs.Stored.{stored_in}
-use Rattle.ap_db.specs.WholeItems.{all_committed}
+use Rattle.ap_scan.specs.Winners.{Files}
 use Rattle.ap_engine.specs.Asked.{meanings_of}
-use Rattle.ap_engine.specs.Changes.{changes}
+use Rattle.ap_engine.specs.Sound.{IsSound}
 use Rattle.ap_cli.specs.Lines.{report_lem}
 use Rattle.ap_cli.specs.Output.{TakesShort}
 use Rattle.ap_cli.specs.Overlay.{Overlays, LaidAllButOne}
-use Rattle.ap_cli.specs.Store.{IsGood}
-use Rattle.ap_cli.proofs.Running.{where_told, opened_alone, opened_soundly, stored_soundly, halted_run, halted_soundly, settled_run, settled_soundly, rows_are, built_at_end, unbuilt_at_end, ran_to_end}
+use Rattle.ap_cli.specs.Project.{HasProject}
+use Rattle.ap_cli.specs.Run.{Ran, Stopped}
+use Rattle.ap_cli.specs.Store.{limit_of}
+use Rattle.ap_cli.specs.Unbuilt.{IsUnbuilt}
+use Rattle.ap_cli.specs.Working.{Configures}
+use Rattle.ap_cli.proofs.Naming.{on_err}
+use Rattle.ap_cli.proofs.Refusing.{cause_of_reading}
 use Rattle.ap_cli.proofs.batch.batch.Goals as goal
 
-pub returns-in-Err-clause-stopped : goal.returns-in-Err-clause-stopped
-returns-in-Err-clause-stopped g c =
-    where_told (g.D.Disk.seen c.args.store.now.0) _ (λ file tells sound. opened_alone g.D.Disk.seen g.D.Disk.may_leave g.D.Disk.clock g.D.Disk.left_at g.D.Disk.room g.D.Disk.faults (meanings_of g.B.Builders.declares g.B.Builders.creates g.B.Builders.makes)
-    (g.B.Builders.offers c.args.builders.now) c.args.folder.now (g.T.Tree.files c.args.tree.now) c.args.store.now c.open.new.store file tells sound c.open.ensures.opens)
+pub returns-in-Err-clause-caused : goal.returns-in-Err-clause-caused
+returns-in-Err-clause-caused g c = cause_of_reading (g.B.Builders.offers c.args.builders.now) c.args.path.now (g.T.Tree.files c.args.tree.now) (g.D.Disk.seen c.args.store.now.0) (limit_of (g.D.Disk.room c.args.store.now.0) (g.D.Disk.room c.args.store.now.1))
+    c.in-Err.stop c.in-Err.ensures.refused c.in-Err.ensures.only
 
-pub returns-in-Err-clause-sound : goal.returns-in-Err-clause-sound
-returns-in-Err-clause-sound g c =
-    where_told (g.D.Disk.seen c.args.store.now.0) _ (λ file tells sound. opened_soundly g.D.Disk.seen g.D.Disk.may_leave g.D.Disk.clock g.D.Disk.left_at g.D.Disk.room g.D.Disk.faults (meanings_of g.B.Builders.declares g.B.Builders.creates g.B.Builders.makes)
-    (g.B.Builders.offers c.args.builders.now) c.args.folder.now (g.T.Tree.files c.args.tree.now) c.args.store.now c.open.new.store file tells sound c.open.ensures.opens)
+pub returns-clause-stopped_at : goal.returns-clause-stopped_at
+returns-clause-stopped_at g c = on_err c.run_project.result _ (λ stop tree memory configuration.
+    subst (λ (told : Option Files). IfSome (g.D.Disk.seen c.args.store.now.0) (λ file. IsSound (meanings_of g.B.Builders.declares g.B.Builders.creates g.B.Builders.makes) file
+    → Stopped g.D.Disk.seen g.D.Disk.may_leave g.D.Disk.clock g.D.Disk.left_at g.D.Disk.room g.D.Disk.faults c.args.store.now c.run_project.new.store (meanings_of g.B.Builders.declares g.B.Builders.creates g.B.Builders.makes)
+    (g.B.Builders.offers c.args.builders.now) c.args.path.now told file)) c.read_config.ensures.same
+    (c.run_project.ensures.stopped c.args.path.now (subst (λ (told : Option Files). Configures (g.B.Builders.offers c.args.builders.now) c.args.path.now told c.in-Ok.config) (sym c.read_config.ensures.same) c.in-Ok.ensures.configured)))
 
-pub returns-in-Err-settle_folder-clause-stopped : goal.returns-in-Err-settle_folder-clause-stopped
-returns-in-Err-settle_folder-clause-stopped g c =
-    where_told (g.D.Disk.seen c.args.store.now.0) _ (λ file tells sound. halted_run g.D.Disk.seen g.D.Disk.may_leave g.D.Disk.clock g.D.Disk.left_at g.D.Disk.room g.D.Disk.faults (meanings_of g.B.Builders.declares g.B.Builders.creates g.B.Builders.makes)
-    (g.B.Builders.offers c.args.builders.now) c.args.folder.now (g.T.Tree.files c.args.tree.now) c.args.store.now c.open.new.store file tells sound c.open.ensures.opens
-    c.in-Ok.ensures.ready.0 c.in-Ok.ensures.ready.2 c.in-Ok.ensures.told c.settle_folder.new.store
-    (c.in-Err-settle_folder.ensures.halted c.in-Ok.ensures.ready.0 c.in-Ok.ensures.ready.1 (stored_soundly g.D.Disk.seen g.D.Disk.may_leave g.D.Disk.clock g.D.Disk.left_at g.D.Disk.room g.D.Disk.faults (meanings_of g.B.Builders.declares g.B.Builders.creates g.B.Builders.makes)
-    (g.B.Builders.offers c.args.builders.now) c.args.folder.now (g.T.Tree.files c.args.tree.now) c.args.store.now c.open.new.store file tells sound c.open.ensures.opens
-    c.in-Ok.ensures.ready.0 c.in-Ok.ensures.ready.2 c.in-Ok.ensures.told c.settle_folder.new.store)))
+pub returns-clause-kept : goal.returns-clause-kept
+returns-clause-kept g c = IfErr-weaker c.run_project.result _ _ (λ stop given some. given (inr some)) c.run_project.ensures.kept
 
-pub returns-in-Err-settle_folder-clause-sound : goal.returns-in-Err-settle_folder-clause-sound
-returns-in-Err-settle_folder-clause-sound g c =
-    where_told (g.D.Disk.seen c.args.store.now.0) _ (λ file tells sound. halted_soundly g.D.Disk.seen g.D.Disk.may_leave g.D.Disk.clock g.D.Disk.left_at g.D.Disk.room g.D.Disk.faults (meanings_of g.B.Builders.declares g.B.Builders.creates g.B.Builders.makes)
-    (g.B.Builders.offers c.args.builders.now) c.args.folder.now (g.T.Tree.files c.args.tree.now) c.args.store.now c.open.new.store file tells sound c.open.ensures.opens
-    c.in-Ok.ensures.ready.0 c.in-Ok.ensures.ready.2 c.in-Ok.ensures.told c.settle_folder.new.store
-    (c.in-Err-settle_folder.ensures.halted c.in-Ok.ensures.ready.0 c.in-Ok.ensures.ready.1 (stored_soundly g.D.Disk.seen g.D.Disk.may_leave g.D.Disk.clock g.D.Disk.left_at g.D.Disk.room g.D.Disk.faults (meanings_of g.B.Builders.declares g.B.Builders.creates g.B.Builders.makes)
-    (g.B.Builders.offers c.args.builders.now) c.args.folder.now (g.T.Tree.files c.args.tree.now) c.args.store.now c.open.new.store file tells sound c.open.ensures.opens
-    c.in-Ok.ensures.ready.0 c.in-Ok.ensures.ready.2 c.in-Ok.ensures.told c.settle_folder.new.store)))
+pub returns-clause-kept_early : goal.returns-clause-kept_early
+returns-clause-kept_early g c = IfErr-weaker c.run_project.result _ _ (λ stop given tree. inr (given (inl tree))) c.run_project.ensures.kept
 
-pub returns-in-Err-settle_folder-clause-unbuilt : goal.returns-in-Err-settle_folder-clause-unbuilt
-returns-in-Err-settle_folder-clause-unbuilt g c = λ why.
-    where_told (g.D.Disk.seen c.args.store.now.0) _ (λ file tells sound. c.in-Err-settle_folder.ensures.unbuilt why c.in-Ok.ensures.ready.0 c.in-Ok.ensures.ready.1 (stored_soundly g.D.Disk.seen g.D.Disk.may_leave g.D.Disk.clock g.D.Disk.left_at g.D.Disk.room g.D.Disk.faults (meanings_of g.B.Builders.declares g.B.Builders.creates g.B.Builders.makes)
-    (g.B.Builders.offers c.args.builders.now) c.args.folder.now (g.T.Tree.files c.args.tree.now) c.args.store.now c.open.new.store file tells sound c.open.ensures.opens
-    c.in-Ok.ensures.ready.0 c.in-Ok.ensures.ready.2 c.in-Ok.ensures.told c.settle_folder.new.store))
-
-pub returns-in-Err-settle_folder-clause-good : goal.returns-in-Err-settle_folder-clause-good
-returns-in-Err-settle_folder-clause-good g c = inr (inr (inr (each (g.D.Disk.seen c.args.store.now.0) (λ file. stored_in file ≡ Ok c.in-Ok.ensures.ready.0) IsGood c.in-Ok.ensures.ready.2 (λ file is. (c.in-Ok.ensures.ready.0, is)))))
-
-pub returns-in-Ok-deliver-clause-done : goal.returns-in-Ok-deliver-clause-done
-returns-in-Ok-deliver-clause-done g c =
-    where_told (g.D.Disk.seen c.args.store.now.0) _ (λ file tells sound. let ran = c.in-Ok-settle_folder.ensures.settled c.in-Ok.ensures.ready.0 c.in-Ok.ensures.ready.1 (stored_soundly g.D.Disk.seen g.D.Disk.may_leave g.D.Disk.clock g.D.Disk.left_at g.D.Disk.room g.D.Disk.faults (meanings_of g.B.Builders.declares g.B.Builders.creates g.B.Builders.makes)
-    (g.B.Builders.offers c.args.builders.now) c.args.folder.now (g.T.Tree.files c.args.tree.now) c.args.store.now c.open.new.store file tells sound c.open.ensures.opens
-    c.in-Ok.ensures.ready.0 c.in-Ok.ensures.ready.2 c.in-Ok.ensures.told c.settle_folder.new.store) in
-    ran_to_end g.D.Disk.seen g.D.Disk.may_leave g.D.Disk.clock g.D.Disk.left_at g.D.Disk.room g.D.Disk.faults (meanings_of g.B.Builders.declares g.B.Builders.creates g.B.Builders.makes)
-    (g.B.Builders.offers c.args.builders.now) c.args.folder.now (g.T.Tree.files c.args.tree.now) c.args.store.now c.open.new.store file tells sound c.open.ensures.opens
-    c.in-Ok.ensures.ready.0 c.in-Ok.ensures.ready.2 c.in-Ok.ensures.told c.settle_folder.new.store
-    c.in-Ok.engine.ledger.db c.settle_folder.new.engine.ledger.db c.in-Ok.engine.ledger.contents c.settle_folder.new.engine.ledger.contents c.args.bench.now c.settle_folder.new.bench ran
-    c.gained-entries.result.now (c.gained-entries.ensures ∙ ap (λ (l : List Entry). drop (length l) c.settle_folder.new.bench) c.issued-first.ensures)
-    (λ put. TellsAs (g.C.CacheDir.files c.args.cache.now) (g.C.CacheDir.files c.deliver.new.cache) (Overlays put))
-    (λ entries counts. Gains (g.O.Sink.written c.args.out.now) (g.O.Sink.written c.deliver.new.out) (report_lem entries counts))
-    (c.in-Ok-deliver.ensures.done ((all_committed c.in-Ok.ensures.ready.0 (changes (meanings_of g.B.Builders.declares g.B.Builders.creates g.B.Builders.makes) ran.config ran.winners c.in-Ok.ensures.ready.0.tables)).tables)
-    (rows_are g.D.Disk.seen g.D.Disk.may_leave g.D.Disk.clock g.D.Disk.left_at g.D.Disk.room g.D.Disk.faults (meanings_of g.B.Builders.declares g.B.Builders.creates g.B.Builders.makes)
-    (g.B.Builders.offers c.args.builders.now) c.args.folder.now (g.T.Tree.files c.args.tree.now) c.args.store.now c.open.new.store file tells sound c.open.ensures.opens
-    c.in-Ok.ensures.ready.0 c.in-Ok.ensures.ready.2 c.in-Ok.ensures.told c.settle_folder.new.store
-    c.in-Ok.engine.ledger.db c.settle_folder.new.engine.ledger.db c.in-Ok.engine.ledger.contents c.settle_folder.new.engine.ledger.contents c.args.bench.now c.settle_folder.new.bench ran c.tables.result.now c.contents.result.now c.tables.ensures c.contents.ensures)))
-
-pub returns-in-Ok-deliver-clause-stopped : goal.returns-in-Ok-deliver-clause-stopped
-returns-in-Ok-deliver-clause-stopped g c =
-    where_told (g.D.Disk.seen c.args.store.now.0) _ (λ file tells sound. settled_run g.D.Disk.seen g.D.Disk.may_leave g.D.Disk.clock g.D.Disk.left_at g.D.Disk.room g.D.Disk.faults (meanings_of g.B.Builders.declares g.B.Builders.creates g.B.Builders.makes)
-    (g.B.Builders.offers c.args.builders.now) c.args.folder.now (g.T.Tree.files c.args.tree.now) c.args.store.now c.open.new.store file tells sound c.open.ensures.opens
-    c.in-Ok.ensures.ready.0 c.in-Ok.ensures.ready.2 c.in-Ok.ensures.told c.settle_folder.new.store
-    c.in-Ok.engine.ledger.db c.settle_folder.new.engine.ledger.db c.in-Ok.engine.ledger.contents c.settle_folder.new.engine.ledger.contents c.args.bench.now c.settle_folder.new.bench
-    (c.in-Ok-settle_folder.ensures.settled c.in-Ok.ensures.ready.0 c.in-Ok.ensures.ready.1 (stored_soundly g.D.Disk.seen g.D.Disk.may_leave g.D.Disk.clock g.D.Disk.left_at g.D.Disk.room g.D.Disk.faults (meanings_of g.B.Builders.declares g.B.Builders.creates g.B.Builders.makes)
-    (g.B.Builders.offers c.args.builders.now) c.args.folder.now (g.T.Tree.files c.args.tree.now) c.args.store.now c.open.new.store file tells sound c.open.ensures.opens
-    c.in-Ok.ensures.ready.0 c.in-Ok.ensures.ready.2 c.in-Ok.ensures.told c.settle_folder.new.store)))
-
-pub returns-in-Ok-deliver-clause-sound : goal.returns-in-Ok-deliver-clause-sound
-returns-in-Ok-deliver-clause-sound g c =
-    where_told (g.D.Disk.seen c.args.store.now.0) _ (λ file tells sound. settled_soundly g.D.Disk.seen g.D.Disk.may_leave g.D.Disk.clock g.D.Disk.left_at g.D.Disk.room g.D.Disk.faults (meanings_of g.B.Builders.declares g.B.Builders.creates g.B.Builders.makes)
-    (g.B.Builders.offers c.args.builders.now) c.args.folder.now (g.T.Tree.files c.args.tree.now) c.args.store.now c.open.new.store file tells sound c.open.ensures.opens
-    c.in-Ok.ensures.ready.0 c.in-Ok.ensures.ready.2 c.in-Ok.ensures.told c.settle_folder.new.store
-    c.in-Ok.engine.ledger.db c.settle_folder.new.engine.ledger.db c.in-Ok.engine.ledger.contents c.settle_folder.new.engine.ledger.contents c.args.bench.now c.settle_folder.new.bench
-    (c.in-Ok-settle_folder.ensures.settled c.in-Ok.ensures.ready.0 c.in-Ok.ensures.ready.1 (stored_soundly g.D.Disk.seen g.D.Disk.may_leave g.D.Disk.clock g.D.Disk.left_at g.D.Disk.room g.D.Disk.faults (meanings_of g.B.Builders.declares g.B.Builders.creates g.B.Builders.makes)
-    (g.B.Builders.offers c.args.builders.now) c.args.folder.now (g.T.Tree.files c.args.tree.now) c.args.store.now c.open.new.store file tells sound c.open.ensures.opens
-    c.in-Ok.ensures.ready.0 c.in-Ok.ensures.ready.2 c.in-Ok.ensures.told c.settle_folder.new.store)))
-
-pub returns-in-Ok-deliver-clause-built_whole : goal.returns-in-Ok-deliver-clause-built_whole
-returns-in-Ok-deliver-clause-built_whole g c =
-    where_told (g.D.Disk.seen c.args.store.now.0) _ (λ file tells sound. let ran = c.in-Ok-settle_folder.ensures.settled c.in-Ok.ensures.ready.0 c.in-Ok.ensures.ready.1 (stored_soundly g.D.Disk.seen g.D.Disk.may_leave g.D.Disk.clock g.D.Disk.left_at g.D.Disk.room g.D.Disk.faults (meanings_of g.B.Builders.declares g.B.Builders.creates g.B.Builders.makes)
-    (g.B.Builders.offers c.args.builders.now) c.args.folder.now (g.T.Tree.files c.args.tree.now) c.args.store.now c.open.new.store file tells sound c.open.ensures.opens
-    c.in-Ok.ensures.ready.0 c.in-Ok.ensures.ready.2 c.in-Ok.ensures.told c.settle_folder.new.store) in
-    built_at_end g.D.Disk.seen g.D.Disk.may_leave g.D.Disk.clock g.D.Disk.left_at g.D.Disk.room g.D.Disk.faults (meanings_of g.B.Builders.declares g.B.Builders.creates g.B.Builders.makes)
-    (g.B.Builders.offers c.args.builders.now) c.args.folder.now (g.T.Tree.files c.args.tree.now) c.args.store.now c.open.new.store file tells sound c.open.ensures.opens
-    c.in-Ok.ensures.ready.0 c.in-Ok.ensures.ready.2 c.in-Ok.ensures.told c.settle_folder.new.store
-    c.in-Ok.engine.ledger.db c.settle_folder.new.engine.ledger.db c.in-Ok.engine.ledger.contents c.settle_folder.new.engine.ledger.contents c.args.bench.now c.settle_folder.new.bench ran
-    (λ put. TellsAs (g.C.CacheDir.files c.args.cache.now) (g.C.CacheDir.files c.deliver.new.cache) (Overlays put))
-    (λ counts. Gains (g.O.Sink.written c.args.out.now) (g.O.Sink.written c.deliver.new.out) (report_lem c.gained-entries.result.now counts))
-    (c.in-Ok-deliver.ensures.done ((all_committed c.in-Ok.ensures.ready.0 (changes (meanings_of g.B.Builders.declares g.B.Builders.creates g.B.Builders.makes) ran.config ran.winners c.in-Ok.ensures.ready.0.tables)).tables)
-    (rows_are g.D.Disk.seen g.D.Disk.may_leave g.D.Disk.clock g.D.Disk.left_at g.D.Disk.room g.D.Disk.faults (meanings_of g.B.Builders.declares g.B.Builders.creates g.B.Builders.makes)
-    (g.B.Builders.offers c.args.builders.now) c.args.folder.now (g.T.Tree.files c.args.tree.now) c.args.store.now c.open.new.store file tells sound c.open.ensures.opens
-    c.in-Ok.ensures.ready.0 c.in-Ok.ensures.ready.2 c.in-Ok.ensures.told c.settle_folder.new.store
-    c.in-Ok.engine.ledger.db c.settle_folder.new.engine.ledger.db c.in-Ok.engine.ledger.contents c.settle_folder.new.engine.ledger.contents c.args.bench.now c.settle_folder.new.bench ran c.tables.result.now c.contents.result.now c.tables.ensures c.contents.ensures)))
-
-pub returns-in-Ok-deliver-clause-good_whole : goal.returns-in-Ok-deliver-clause-good_whole
-returns-in-Ok-deliver-clause-good_whole g c = each (g.D.Disk.seen c.args.store.now.0) (λ file. stored_in file ≡ Ok c.in-Ok.ensures.ready.0) IsGood c.in-Ok.ensures.ready.2 (λ file is. (c.in-Ok.ensures.ready.0, is))
+pub returns-clause-scanned : goal.returns-clause-scanned
+returns-clause-scanned g c = IfErr-weaker c.run_project.result _ _ (λ stop given l w full.
+    subst (λ (told : Option Files). IfSome told (HasProject (g.B.Builders.offers c.args.builders.now) c.args.path.now)) c.read_config.ensures.same
+    (given l w full c.args.path.now (subst (λ (told : Option Files). Configures (g.B.Builders.offers c.args.builders.now) c.args.path.now told c.in-Ok.config) (sym c.read_config.ensures.same) c.in-Ok.ensures.configured)))
+    c.run_project.ensures.scanned
 
 pub returns-clause-front : goal.returns-clause-front
-returns-clause-front g c = λ why.
-    where_told (g.D.Disk.seen c.args.store.now.0) _ (λ file tells sound. let ran = c.in-Ok-settle_folder.ensures.settled c.in-Ok.ensures.ready.0 c.in-Ok.ensures.ready.1 (stored_soundly g.D.Disk.seen g.D.Disk.may_leave g.D.Disk.clock g.D.Disk.left_at g.D.Disk.room g.D.Disk.faults (meanings_of g.B.Builders.declares g.B.Builders.creates g.B.Builders.makes)
-    (g.B.Builders.offers c.args.builders.now) c.args.folder.now (g.T.Tree.files c.args.tree.now) c.args.store.now c.open.new.store file tells sound c.open.ensures.opens
-    c.in-Ok.ensures.ready.0 c.in-Ok.ensures.ready.2 c.in-Ok.ensures.told c.settle_folder.new.store) in
-    ran_to_end g.D.Disk.seen g.D.Disk.may_leave g.D.Disk.clock g.D.Disk.left_at g.D.Disk.room g.D.Disk.faults (meanings_of g.B.Builders.declares g.B.Builders.creates g.B.Builders.makes)
-    (g.B.Builders.offers c.args.builders.now) c.args.folder.now (g.T.Tree.files c.args.tree.now) c.args.store.now c.open.new.store file tells sound c.open.ensures.opens
-    c.in-Ok.ensures.ready.0 c.in-Ok.ensures.ready.2 c.in-Ok.ensures.told c.settle_folder.new.store
-    c.in-Ok.engine.ledger.db c.settle_folder.new.engine.ledger.db c.in-Ok.engine.ledger.contents c.settle_folder.new.engine.ledger.contents c.args.bench.now c.settle_folder.new.bench ran
-    c.gained-entries.result.now (c.gained-entries.ensures ∙ ap (λ (l : List Entry). drop (length l) c.settle_folder.new.bench) c.issued-first.ensures)
-    (λ put. TellsAs (g.C.CacheDir.files c.args.cache.now) (g.C.CacheDir.files c.deliver.new.cache) (Overlays put))
-    (λ entries counts. TakesShort (g.O.Sink.room c.args.out.now) (g.O.Sink.written c.args.out.now) (g.O.Sink.written c.deliver.new.out) (report_lem entries counts))
-    (c.in-Err-deliver.ensures.front why ((all_committed c.in-Ok.ensures.ready.0 (changes (meanings_of g.B.Builders.declares g.B.Builders.creates g.B.Builders.makes) ran.config ran.winners c.in-Ok.ensures.ready.0.tables)).tables)
-    (rows_are g.D.Disk.seen g.D.Disk.may_leave g.D.Disk.clock g.D.Disk.left_at g.D.Disk.room g.D.Disk.faults (meanings_of g.B.Builders.declares g.B.Builders.creates g.B.Builders.makes)
-    (g.B.Builders.offers c.args.builders.now) c.args.folder.now (g.T.Tree.files c.args.tree.now) c.args.store.now c.open.new.store file tells sound c.open.ensures.opens
-    c.in-Ok.ensures.ready.0 c.in-Ok.ensures.ready.2 c.in-Ok.ensures.told c.settle_folder.new.store
-    c.in-Ok.engine.ledger.db c.settle_folder.new.engine.ledger.db c.in-Ok.engine.ledger.contents c.settle_folder.new.engine.ledger.contents c.args.bench.now c.settle_folder.new.bench ran c.tables.result.now c.contents.result.now c.tables.ensures c.contents.ensures)))
+returns-clause-front g c = IfErr-weaker c.run_project.result _ _ (λ stop given why.
+    subst (λ (told : Option Files). IfSome (g.D.Disk.seen c.args.store.now.0) (λ file. IsSound (meanings_of g.B.Builders.declares g.B.Builders.creates g.B.Builders.makes) file → IfSome told (λ files. Ran g.D.Disk.seen g.D.Disk.may_leave g.D.Disk.clock g.D.Disk.left_at g.D.Disk.room g.D.Disk.faults c.args.store.now c.run_project.new.store (meanings_of g.B.Builders.declares g.B.Builders.creates g.B.Builders.makes) (g.B.Builders.offers c.args.builders.now) c.args.path.now c.args.bench.now c.run_project.new.bench
+    (λ put. TellsAs (g.C.CacheDir.files c.args.cache.now) (g.C.CacheDir.files c.run_project.new.cache) (Overlays put))
+    (λ entries others counts. TakesShort (g.O.Sink.room c.args.out.now) (g.O.Sink.written c.args.out.now) (g.O.Sink.written c.run_project.new.out) (report_lem entries others counts)) files file)))
+    c.read_config.ensures.same (given why c.args.path.now (subst (λ (told : Option Files). Configures (g.B.Builders.offers c.args.builders.now) c.args.path.now told c.in-Ok.config) (sym c.read_config.ensures.same) c.in-Ok.ensures.configured)))
+    c.run_project.ensures.front
 
 pub returns-clause-partly : goal.returns-clause-partly
-returns-clause-partly g c = λ why.
-    where_told (g.D.Disk.seen c.args.store.now.0) _ (λ file tells sound. let ran = c.in-Ok-settle_folder.ensures.settled c.in-Ok.ensures.ready.0 c.in-Ok.ensures.ready.1 (stored_soundly g.D.Disk.seen g.D.Disk.may_leave g.D.Disk.clock g.D.Disk.left_at g.D.Disk.room g.D.Disk.faults (meanings_of g.B.Builders.declares g.B.Builders.creates g.B.Builders.makes)
-    (g.B.Builders.offers c.args.builders.now) c.args.folder.now (g.T.Tree.files c.args.tree.now) c.args.store.now c.open.new.store file tells sound c.open.ensures.opens
-    c.in-Ok.ensures.ready.0 c.in-Ok.ensures.ready.2 c.in-Ok.ensures.told c.settle_folder.new.store) in
-    ran_to_end g.D.Disk.seen g.D.Disk.may_leave g.D.Disk.clock g.D.Disk.left_at g.D.Disk.room g.D.Disk.faults (meanings_of g.B.Builders.declares g.B.Builders.creates g.B.Builders.makes)
-    (g.B.Builders.offers c.args.builders.now) c.args.folder.now (g.T.Tree.files c.args.tree.now) c.args.store.now c.open.new.store file tells sound c.open.ensures.opens
-    c.in-Ok.ensures.ready.0 c.in-Ok.ensures.ready.2 c.in-Ok.ensures.told c.settle_folder.new.store
-    c.in-Ok.engine.ledger.db c.settle_folder.new.engine.ledger.db c.in-Ok.engine.ledger.contents c.settle_folder.new.engine.ledger.contents c.args.bench.now c.settle_folder.new.bench ran
-    c.gained-entries.result.now (c.gained-entries.ensures ∙ ap (λ (l : List Entry). drop (length l) c.settle_folder.new.bench) c.issued-first.ensures)
-    (λ put. TellsAs (g.C.CacheDir.files c.args.cache.now) (g.C.CacheDir.files c.deliver.new.cache) (LaidAllButOne put))
-    (λ _ _. Unit {0})
-    (c.in-Err-deliver.ensures.partly why ((all_committed c.in-Ok.ensures.ready.0 (changes (meanings_of g.B.Builders.declares g.B.Builders.creates g.B.Builders.makes) ran.config ran.winners c.in-Ok.ensures.ready.0.tables)).tables)
-    (rows_are g.D.Disk.seen g.D.Disk.may_leave g.D.Disk.clock g.D.Disk.left_at g.D.Disk.room g.D.Disk.faults (meanings_of g.B.Builders.declares g.B.Builders.creates g.B.Builders.makes)
-    (g.B.Builders.offers c.args.builders.now) c.args.folder.now (g.T.Tree.files c.args.tree.now) c.args.store.now c.open.new.store file tells sound c.open.ensures.opens
-    c.in-Ok.ensures.ready.0 c.in-Ok.ensures.ready.2 c.in-Ok.ensures.told c.settle_folder.new.store
-    c.in-Ok.engine.ledger.db c.settle_folder.new.engine.ledger.db c.in-Ok.engine.ledger.contents c.settle_folder.new.engine.ledger.contents c.args.bench.now c.settle_folder.new.bench ran c.tables.result.now c.contents.result.now c.tables.ensures c.contents.ensures)))
-
-pub returns-clause-stopped : goal.returns-clause-stopped
-returns-clause-stopped g c =
-    where_told (g.D.Disk.seen c.args.store.now.0) _ (λ file tells sound. settled_run g.D.Disk.seen g.D.Disk.may_leave g.D.Disk.clock g.D.Disk.left_at g.D.Disk.room g.D.Disk.faults (meanings_of g.B.Builders.declares g.B.Builders.creates g.B.Builders.makes)
-    (g.B.Builders.offers c.args.builders.now) c.args.folder.now (g.T.Tree.files c.args.tree.now) c.args.store.now c.open.new.store file tells sound c.open.ensures.opens
-    c.in-Ok.ensures.ready.0 c.in-Ok.ensures.ready.2 c.in-Ok.ensures.told c.settle_folder.new.store
-    c.in-Ok.engine.ledger.db c.settle_folder.new.engine.ledger.db c.in-Ok.engine.ledger.contents c.settle_folder.new.engine.ledger.contents c.args.bench.now c.settle_folder.new.bench
-    (c.in-Ok-settle_folder.ensures.settled c.in-Ok.ensures.ready.0 c.in-Ok.ensures.ready.1 (stored_soundly g.D.Disk.seen g.D.Disk.may_leave g.D.Disk.clock g.D.Disk.left_at g.D.Disk.room g.D.Disk.faults (meanings_of g.B.Builders.declares g.B.Builders.creates g.B.Builders.makes)
-    (g.B.Builders.offers c.args.builders.now) c.args.folder.now (g.T.Tree.files c.args.tree.now) c.args.store.now c.open.new.store file tells sound c.open.ensures.opens
-    c.in-Ok.ensures.ready.0 c.in-Ok.ensures.ready.2 c.in-Ok.ensures.told c.settle_folder.new.store)))
-
-pub returns-clause-sound : goal.returns-clause-sound
-returns-clause-sound g c =
-    where_told (g.D.Disk.seen c.args.store.now.0) _ (λ file tells sound. settled_soundly g.D.Disk.seen g.D.Disk.may_leave g.D.Disk.clock g.D.Disk.left_at g.D.Disk.room g.D.Disk.faults (meanings_of g.B.Builders.declares g.B.Builders.creates g.B.Builders.makes)
-    (g.B.Builders.offers c.args.builders.now) c.args.folder.now (g.T.Tree.files c.args.tree.now) c.args.store.now c.open.new.store file tells sound c.open.ensures.opens
-    c.in-Ok.ensures.ready.0 c.in-Ok.ensures.ready.2 c.in-Ok.ensures.told c.settle_folder.new.store
-    c.in-Ok.engine.ledger.db c.settle_folder.new.engine.ledger.db c.in-Ok.engine.ledger.contents c.settle_folder.new.engine.ledger.contents c.args.bench.now c.settle_folder.new.bench
-    (c.in-Ok-settle_folder.ensures.settled c.in-Ok.ensures.ready.0 c.in-Ok.ensures.ready.1 (stored_soundly g.D.Disk.seen g.D.Disk.may_leave g.D.Disk.clock g.D.Disk.left_at g.D.Disk.room g.D.Disk.faults (meanings_of g.B.Builders.declares g.B.Builders.creates g.B.Builders.makes)
-    (g.B.Builders.offers c.args.builders.now) c.args.folder.now (g.T.Tree.files c.args.tree.now) c.args.store.now c.open.new.store file tells sound c.open.ensures.opens
-    c.in-Ok.ensures.ready.0 c.in-Ok.ensures.ready.2 c.in-Ok.ensures.told c.settle_folder.new.store)))
+returns-clause-partly g c = IfErr-weaker c.run_project.result _ _ (λ stop given why.
+    subst (λ (told : Option Files). IfSome (g.D.Disk.seen c.args.store.now.0) (λ file. IsSound (meanings_of g.B.Builders.declares g.B.Builders.creates g.B.Builders.makes) file → IfSome told (λ files. Ran g.D.Disk.seen g.D.Disk.may_leave g.D.Disk.clock g.D.Disk.left_at g.D.Disk.room g.D.Disk.faults c.args.store.now c.run_project.new.store (meanings_of g.B.Builders.declares g.B.Builders.creates g.B.Builders.makes) (g.B.Builders.offers c.args.builders.now) c.args.path.now c.args.bench.now c.run_project.new.bench
+    (λ put. TellsAs (g.C.CacheDir.files c.args.cache.now) (g.C.CacheDir.files c.run_project.new.cache) (LaidAllButOne put))
+    (λ _ _ _. Unit {0}) files file)))
+    c.read_config.ensures.same (given why c.args.path.now (subst (λ (told : Option Files). Configures (g.B.Builders.offers c.args.builders.now) c.args.path.now told c.in-Ok.config) (sym c.read_config.ensures.same) c.in-Ok.ensures.configured)))
+    c.run_project.ensures.partly
 
 pub returns-clause-unbuilt : goal.returns-clause-unbuilt
-returns-clause-unbuilt g c = λ why.
-    where_told (g.D.Disk.seen c.args.store.now.0) _ (λ file tells sound. let ran = c.in-Ok-settle_folder.ensures.settled c.in-Ok.ensures.ready.0 c.in-Ok.ensures.ready.1 (stored_soundly g.D.Disk.seen g.D.Disk.may_leave g.D.Disk.clock g.D.Disk.left_at g.D.Disk.room g.D.Disk.faults (meanings_of g.B.Builders.declares g.B.Builders.creates g.B.Builders.makes)
-    (g.B.Builders.offers c.args.builders.now) c.args.folder.now (g.T.Tree.files c.args.tree.now) c.args.store.now c.open.new.store file tells sound c.open.ensures.opens
-    c.in-Ok.ensures.ready.0 c.in-Ok.ensures.ready.2 c.in-Ok.ensures.told c.settle_folder.new.store) in
-    unbuilt_at_end g.D.Disk.seen g.D.Disk.may_leave g.D.Disk.clock g.D.Disk.left_at g.D.Disk.room g.D.Disk.faults (meanings_of g.B.Builders.declares g.B.Builders.creates g.B.Builders.makes)
-    (g.B.Builders.offers c.args.builders.now) c.args.folder.now (g.T.Tree.files c.args.tree.now) c.args.store.now c.open.new.store file tells sound c.open.ensures.opens
-    c.in-Ok.ensures.ready.0 c.in-Ok.ensures.ready.2 c.in-Ok.ensures.told c.settle_folder.new.store
-    c.in-Ok.engine.ledger.db c.settle_folder.new.engine.ledger.db c.in-Ok.engine.ledger.contents c.settle_folder.new.engine.ledger.contents c.args.bench.now c.settle_folder.new.bench ran
-    (c.in-Err-deliver.ensures.unbuilt why ((all_committed c.in-Ok.ensures.ready.0 (changes (meanings_of g.B.Builders.declares g.B.Builders.creates g.B.Builders.makes) ran.config ran.winners c.in-Ok.ensures.ready.0.tables)).tables)
-    (rows_are g.D.Disk.seen g.D.Disk.may_leave g.D.Disk.clock g.D.Disk.left_at g.D.Disk.room g.D.Disk.faults (meanings_of g.B.Builders.declares g.B.Builders.creates g.B.Builders.makes)
-    (g.B.Builders.offers c.args.builders.now) c.args.folder.now (g.T.Tree.files c.args.tree.now) c.args.store.now c.open.new.store file tells sound c.open.ensures.opens
-    c.in-Ok.ensures.ready.0 c.in-Ok.ensures.ready.2 c.in-Ok.ensures.told c.settle_folder.new.store
-    c.in-Ok.engine.ledger.db c.settle_folder.new.engine.ledger.db c.in-Ok.engine.ledger.contents c.settle_folder.new.engine.ledger.contents c.args.bench.now c.settle_folder.new.bench ran c.tables.result.now c.contents.result.now c.tables.ensures c.contents.ensures)))
+returns-clause-unbuilt g c = IfErr-weaker c.run_project.result _ _ (λ stop given why.
+    subst (λ (told : Option Files). IfSome (g.D.Disk.seen c.args.store.now.0) (λ file. IsSound (meanings_of g.B.Builders.declares g.B.Builders.creates g.B.Builders.makes) file → IfSome told (IsUnbuilt (meanings_of g.B.Builders.declares g.B.Builders.creates g.B.Builders.makes) (g.B.Builders.offers c.args.builders.now) c.args.path.now)))
+    c.read_config.ensures.same (given why c.args.path.now (subst (λ (told : Option Files). Configures (g.B.Builders.offers c.args.builders.now) c.args.path.now told c.in-Ok.config) (sym c.read_config.ensures.same) c.in-Ok.ensures.configured)))
+    c.run_project.ensures.unbuilt
 
 pub returns-clause-built : goal.returns-clause-built
-returns-clause-built g c = λ why.
-    where_told (g.D.Disk.seen c.args.store.now.0) _ (λ file tells sound. let ran = c.in-Ok-settle_folder.ensures.settled c.in-Ok.ensures.ready.0 c.in-Ok.ensures.ready.1 (stored_soundly g.D.Disk.seen g.D.Disk.may_leave g.D.Disk.clock g.D.Disk.left_at g.D.Disk.room g.D.Disk.faults (meanings_of g.B.Builders.declares g.B.Builders.creates g.B.Builders.makes)
-    (g.B.Builders.offers c.args.builders.now) c.args.folder.now (g.T.Tree.files c.args.tree.now) c.args.store.now c.open.new.store file tells sound c.open.ensures.opens
-    c.in-Ok.ensures.ready.0 c.in-Ok.ensures.ready.2 c.in-Ok.ensures.told c.settle_folder.new.store) in
-    ⊎_elim
-    (λ cache. built_at_end g.D.Disk.seen g.D.Disk.may_leave g.D.Disk.clock g.D.Disk.left_at g.D.Disk.room g.D.Disk.faults (meanings_of g.B.Builders.declares g.B.Builders.creates g.B.Builders.makes)
-    (g.B.Builders.offers c.args.builders.now) c.args.folder.now (g.T.Tree.files c.args.tree.now) c.args.store.now c.open.new.store file tells sound c.open.ensures.opens
-    c.in-Ok.ensures.ready.0 c.in-Ok.ensures.ready.2 c.in-Ok.ensures.told c.settle_folder.new.store
-    c.in-Ok.engine.ledger.db c.settle_folder.new.engine.ledger.db c.in-Ok.engine.ledger.contents c.settle_folder.new.engine.ledger.contents c.args.bench.now c.settle_folder.new.bench ran
-    (λ put. TellsAs (g.C.CacheDir.files c.args.cache.now) (g.C.CacheDir.files c.deliver.new.cache) (LaidAllButOne put))
-    (λ _. Unit {0})
-    (c.in-Err-deliver.ensures.partly cache ((all_committed c.in-Ok.ensures.ready.0 (changes (meanings_of g.B.Builders.declares g.B.Builders.creates g.B.Builders.makes) ran.config ran.winners c.in-Ok.ensures.ready.0.tables)).tables)
-    (rows_are g.D.Disk.seen g.D.Disk.may_leave g.D.Disk.clock g.D.Disk.left_at g.D.Disk.room g.D.Disk.faults (meanings_of g.B.Builders.declares g.B.Builders.creates g.B.Builders.makes)
-    (g.B.Builders.offers c.args.builders.now) c.args.folder.now (g.T.Tree.files c.args.tree.now) c.args.store.now c.open.new.store file tells sound c.open.ensures.opens
-    c.in-Ok.ensures.ready.0 c.in-Ok.ensures.ready.2 c.in-Ok.ensures.told c.settle_folder.new.store
-    c.in-Ok.engine.ledger.db c.settle_folder.new.engine.ledger.db c.in-Ok.engine.ledger.contents c.settle_folder.new.engine.ledger.contents c.args.bench.now c.settle_folder.new.bench ran c.tables.result.now c.contents.result.now c.tables.ensures c.contents.ensures)))
-    (λ output. built_at_end g.D.Disk.seen g.D.Disk.may_leave g.D.Disk.clock g.D.Disk.left_at g.D.Disk.room g.D.Disk.faults (meanings_of g.B.Builders.declares g.B.Builders.creates g.B.Builders.makes)
-    (g.B.Builders.offers c.args.builders.now) c.args.folder.now (g.T.Tree.files c.args.tree.now) c.args.store.now c.open.new.store file tells sound c.open.ensures.opens
-    c.in-Ok.ensures.ready.0 c.in-Ok.ensures.ready.2 c.in-Ok.ensures.told c.settle_folder.new.store
-    c.in-Ok.engine.ledger.db c.settle_folder.new.engine.ledger.db c.in-Ok.engine.ledger.contents c.settle_folder.new.engine.ledger.contents c.args.bench.now c.settle_folder.new.bench ran
-    (λ put. TellsAs (g.C.CacheDir.files c.args.cache.now) (g.C.CacheDir.files c.deliver.new.cache) (Overlays put))
-    (λ counts. TakesShort (g.O.Sink.room c.args.out.now) (g.O.Sink.written c.args.out.now) (g.O.Sink.written c.deliver.new.out) (report_lem c.gained-entries.result.now counts))
-    (c.in-Err-deliver.ensures.front output ((all_committed c.in-Ok.ensures.ready.0 (changes (meanings_of g.B.Builders.declares g.B.Builders.creates g.B.Builders.makes) ran.config ran.winners c.in-Ok.ensures.ready.0.tables)).tables)
-    (rows_are g.D.Disk.seen g.D.Disk.may_leave g.D.Disk.clock g.D.Disk.left_at g.D.Disk.room g.D.Disk.faults (meanings_of g.B.Builders.declares g.B.Builders.creates g.B.Builders.makes)
-    (g.B.Builders.offers c.args.builders.now) c.args.folder.now (g.T.Tree.files c.args.tree.now) c.args.store.now c.open.new.store file tells sound c.open.ensures.opens
-    c.in-Ok.ensures.ready.0 c.in-Ok.ensures.ready.2 c.in-Ok.ensures.told c.settle_folder.new.store
-    c.in-Ok.engine.ledger.db c.settle_folder.new.engine.ledger.db c.in-Ok.engine.ledger.contents c.settle_folder.new.engine.ledger.contents c.args.bench.now c.settle_folder.new.bench ran c.tables.result.now c.contents.result.now c.tables.ensures c.contents.ensures))) why)
-
-pub returns-clause-good : goal.returns-clause-good
-returns-clause-good g c = inr (inr (inr (each (g.D.Disk.seen c.args.store.now.0) (λ file. stored_in file ≡ Ok c.in-Ok.ensures.ready.0) IsGood c.in-Ok.ensures.ready.2 (λ file is. (c.in-Ok.ensures.ready.0, is)))))
+returns-clause-built g c = IfErr-weaker c.run_project.result _ _ (λ stop given why.
+    subst (λ (told : Option Files). IfSome (g.D.Disk.seen c.args.store.now.0) (λ file. IsSound (meanings_of g.B.Builders.declares g.B.Builders.creates g.B.Builders.makes) file → IfSome told (λ files. ¬ IsUnbuilt (meanings_of g.B.Builders.declares g.B.Builders.creates g.B.Builders.makes) (g.B.Builders.offers c.args.builders.now) c.args.path.now files)))
+    c.read_config.ensures.same (given why c.args.path.now (subst (λ (told : Option Files). Configures (g.B.Builders.offers c.args.builders.now) c.args.path.now told c.in-Ok.config) (sym c.read_config.ensures.same) c.in-Ok.ensures.configured)))
+    c.run_project.ensures.built

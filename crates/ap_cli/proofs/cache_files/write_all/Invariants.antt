@@ -2,7 +2,7 @@ use Rattle.std.proofs.Common.{◌≡◌, ◌≤◌, true, ℕ, List, length}
 use Rattle.std.specs.Prelude.{Option, Some}
 use Rattle.ap_tree.specs.Files.{content_at, has_distinct_paths}
 use Rattle.ap_tree.specs.Changes.{TellsAs}
-use Rattle.ap_cli.specs.Sources.{Files}
+use Rattle.ap_scan.specs.Winners.{Files}
 use Rattle.ap_cli.specs.Overlay.{Overlays}
 use Rattle.ap_cli.proofs.Between.{Between}
 use Rattle.ap_cli.proofs.cache_files.write_all.Given as goal

@@ -32,31 +32,31 @@ put_create-requires g c =
     let m = meanings_of g.B.Builders.declares g.B.Builders.creates g.B.Builders.makes in
     let ledger = c.args.ledger.now in
     let r = c.requires.ready in
-    let came = c.in-Ok.ensures.job (its_bytes m c.args.config.now r.0 d.seen d.may_leave d.room ledger.db ledger.contents c.args.store.now r.1 c.args.creation.now r.2 r.3) (its_bytes_stand m c.args.config.now r.0 d.seen d.may_leave d.room ledger.db ledger.contents c.args.store.now r.1 c.args.creation.now r.2 r.3) in
-    (r.1, r.3.ready, create_row m c.args.config.now r.0 r.2.path, row_is m c.args.config.now r.0 d.seen d.may_leave d.room ledger.db ledger.contents c.args.store.now r.1 c.args.creation.now r.2 r.3 c.in-Ok.job came c.in-Ok-creation_row.row c.in-Ok-creation_row.ensures, row_good m c.args.config.now r.0 d.seen d.may_leave d.room ledger.db ledger.contents c.args.store.now r.1 c.args.creation.now r.2 r.3 c.in-Ok.job came)
+    let came = c.in-Ok.ensures.jobs (its_bytes m c.args.config.now r.0 d.seen d.may_leave d.room ledger.db ledger.contents c.args.store.now r.1 c.args.creation.now r.2 r.3) (its_bytes_stand m c.args.config.now r.0 d.seen d.may_leave d.room ledger.db ledger.contents c.args.store.now r.1 c.args.creation.now r.2 r.3) in
+    (r.1, r.3.ready, create_row m c.args.config.now r.0 r.2.path, row_is m c.args.config.now r.0 d.seen d.may_leave d.room ledger.db ledger.contents c.args.store.now r.1 c.args.creation.now r.2 r.3 c.in-Ok.jobs.items came c.in-Ok-creation_row.row c.in-Ok-creation_row.ensures, row_good m c.args.config.now r.0 d.seen d.may_leave d.room ledger.db ledger.contents c.args.store.now r.1 c.args.creation.now r.2 r.3 c.in-Ok.jobs.items came)
 
 pub returns-in-Ok-put_create-clause-committed : goal.returns-in-Ok-put_create-clause-committed
 returns-in-Ok-put_create-clause-committed g c = λ winners stored winner to_put.
     let d = g.D.Disk in
     let m = meanings_of g.B.Builders.declares g.B.Builders.creates g.B.Builders.makes in
     let ledger = c.args.ledger.now in
-    let came = c.in-Ok.ensures.job (its_bytes m c.args.config.now winners d.seen d.may_leave d.room ledger.db ledger.contents c.args.store.now stored c.args.creation.now winner to_put) (its_bytes_stand m c.args.config.now winners d.seen d.may_leave d.room ledger.db ledger.contents c.args.store.now stored c.args.creation.now winner to_put) in
+    let came = c.in-Ok.ensures.jobs (its_bytes m c.args.config.now winners d.seen d.may_leave d.room ledger.db ledger.contents c.args.store.now stored c.args.creation.now winner to_put) (its_bytes_stand m c.args.config.now winners d.seen d.may_leave d.room ledger.db ledger.contents c.args.store.now stored c.args.creation.now winner to_put) in
     c.in-Ok-put_create.ensures.committed stored to_put.ready (create_row m c.args.config.now winners winner.path)
-    (row_is m c.args.config.now winners d.seen d.may_leave d.room ledger.db ledger.contents c.args.store.now stored c.args.creation.now winner to_put c.in-Ok.job came c.in-Ok-creation_row.row c.in-Ok-creation_row.ensures) (row_good m c.args.config.now winners d.seen d.may_leave d.room ledger.db ledger.contents c.args.store.now stored c.args.creation.now winner to_put c.in-Ok.job came)
+    (row_is m c.args.config.now winners d.seen d.may_leave d.room ledger.db ledger.contents c.args.store.now stored c.args.creation.now winner to_put c.in-Ok.jobs.items came c.in-Ok-creation_row.row c.in-Ok-creation_row.ensures) (row_good m c.args.config.now winners d.seen d.may_leave d.room ledger.db ledger.contents c.args.store.now stored c.args.creation.now winner to_put c.in-Ok.jobs.items came)
 
 pub returns-in-Ok-put_create-clause-free : goal.returns-in-Ok-put_create-clause-free
 returns-in-Ok-put_create-clause-free g c = λ winners stored winner to_put.
     let d = g.D.Disk in
     let m = meanings_of g.B.Builders.declares g.B.Builders.creates g.B.Builders.makes in
     let ledger = c.args.ledger.now in
-    let came = c.in-Ok.ensures.job (its_bytes m c.args.config.now winners d.seen d.may_leave d.room ledger.db ledger.contents c.args.store.now stored c.args.creation.now winner to_put) (its_bytes_stand m c.args.config.now winners d.seen d.may_leave d.room ledger.db ledger.contents c.args.store.now stored c.args.creation.now winner to_put) in
-    is_free m c.args.config.now winners d.seen d.may_leave d.room ledger.db ledger.contents c.args.store.now stored c.args.creation.now winner to_put c.in-Ok.job came
+    let came = c.in-Ok.ensures.jobs (its_bytes m c.args.config.now winners d.seen d.may_leave d.room ledger.db ledger.contents c.args.store.now stored c.args.creation.now winner to_put) (its_bytes_stand m c.args.config.now winners d.seen d.may_leave d.room ledger.db ledger.contents c.args.store.now stored c.args.creation.now winner to_put) in
+    is_free m c.args.config.now winners d.seen d.may_leave d.room ledger.db ledger.contents c.args.store.now stored c.args.creation.now winner to_put c.in-Ok.jobs.items came
 
 pub returns-in-Err-put_create-clause-stopped : goal.returns-in-Err-put_create-clause-stopped
 returns-in-Err-put_create-clause-stopped g c = λ winners stored winner to_put.
     let d = g.D.Disk in
     let m = meanings_of g.B.Builders.declares g.B.Builders.creates g.B.Builders.makes in
     let ledger = c.args.ledger.now in
-    let came = c.in-Ok.ensures.job (its_bytes m c.args.config.now winners d.seen d.may_leave d.room ledger.db ledger.contents c.args.store.now stored c.args.creation.now winner to_put) (its_bytes_stand m c.args.config.now winners d.seen d.may_leave d.room ledger.db ledger.contents c.args.store.now stored c.args.creation.now winner to_put) in
+    let came = c.in-Ok.ensures.jobs (its_bytes m c.args.config.now winners d.seen d.may_leave d.room ledger.db ledger.contents c.args.store.now stored c.args.creation.now winner to_put) (its_bytes_stand m c.args.config.now winners d.seen d.may_leave d.room ledger.db ledger.contents c.args.store.now stored c.args.creation.now winner to_put) in
     c.in-Err-put_create.ensures.stopped stored to_put.ready (create_row m c.args.config.now winners winner.path)
-    (row_is m c.args.config.now winners d.seen d.may_leave d.room ledger.db ledger.contents c.args.store.now stored c.args.creation.now winner to_put c.in-Ok.job came c.in-Ok-creation_row.row c.in-Ok-creation_row.ensures) (row_good m c.args.config.now winners d.seen d.may_leave d.room ledger.db ledger.contents c.args.store.now stored c.args.creation.now winner to_put c.in-Ok.job came)
+    (row_is m c.args.config.now winners d.seen d.may_leave d.room ledger.db ledger.contents c.args.store.now stored c.args.creation.now winner to_put c.in-Ok.jobs.items came c.in-Ok-creation_row.row c.in-Ok-creation_row.ensures) (row_good m c.args.config.now winners d.seen d.may_leave d.room ledger.db ledger.contents c.args.store.now stored c.args.creation.now winner to_put c.in-Ok.jobs.items came)

@@ -59,6 +59,23 @@ returns-in-Err-put_front-clause-stopped g c =
     let ready_held = ready_on m config winners d.seen d.may_leave d.clock d.left_at d.room d.faults start.db start.contents held.db held.contents e.db first stored ready (e.beside stored ready.beside) in
     inr (inl (inputs, c.in-Err-put_front.ensures.stopped winners stored ready_held quiet are))
 
+pub returns-in-Err-put_front-clause-unbuilt : goal.returns-in-Err-put_front-clause-unbuilt
+returns-in-Err-put_front-clause-unbuilt g c =
+    let d = g.D.Disk in
+    let m = meanings_of g.B.Builders.declares g.B.Builders.creates g.B.Builders.makes in
+    let config = c.args.config.now in
+    let winners = c.args.winners.items in
+    let start = c.args.self.now.ledger in
+    let first = c.args.store.now in
+    let quiet = c.requires.world.2 in
+    let held = c.intern_sources.new.ledger in
+    let e = c.in-Ok.ensures in
+    λ is stored ready sound.
+    let are = subst (λ (l : List Source). AreSourcesOf held.db held.contents l (sources config winners)) (sym c.as_slice-all.ensures.value) (e.interned stored ready.beside quiet.read) in
+    let ready_held = ready_on m config winners d.seen d.may_leave d.clock d.left_at d.room d.faults start.db start.contents held.db held.contents e.db first stored ready (e.beside stored ready.beside) in
+    let bad = c.in-Err-put_front.ensures.unbuilt is winners stored ready_held quiet are in
+    inl (record { winner = bad.0; is = bad.1; other = bad.2 })
+
 pub put_jobs-requires-clause-there : goal.put_jobs-requires-clause-there
 put_jobs-requires-clause-there g c =
     let d = g.D.Disk in
