@@ -20,12 +20,13 @@ use Rattle.ap_rows.specs.Readers.{is_folded}
 use Rattle.ap_builder.specs.Meanings.{Meanings}
 use Rattle.ap_builder.specs.Paths.{IsShort}
 use Rattle.ap_sources.specs.Sources.{matching, is_some_item, sources}
+use Rattle.ap_engine.specs.Need.{is_too_large}
 use Rattle.ap_engine.specs.Worlds.{AreQuiet, IsRead}
 use Rattle.ap_cli.specs.declared.stop.Stop.{Stop}
 use Rattle.ap_cli.specs.declared.stop.Stop.TheVariants.{Tree, Limit, Memory, Unbuilt}
 use Rattle.ap_cli.specs.Project.{IsProject, IsOver}
 use Rattle.ap_cli.specs.Refusals.{of_scan}
-use Rattle.ap_cli.specs.Unbuilt.{HasTooLarge, is_large, IsTargeted, IsRefused, IsUnbuilt}
+use Rattle.ap_cli.specs.Unbuilt.{HasTooLarge, IsTargeted, IsRefused, IsUnbuilt}
 use Rattle.ap_cli.specs.Working.{Configures, IsFound}
 use Rattle.ap_cli.proofs.Building.{refused_where_told}
 use Rattle.ap_cli.proofs.Targeting.{no_targets}
@@ -41,7 +42,7 @@ module _ (winners : List Winner) (lawful : AreLawful winners) where
         by_seen : (seen : Seen) → winner.seen ≡ seen → IsRead winner
         by_seen (Bytes bytes) is = record { bytes = bytes; seen = is }
         by_seen Absent is = absurd ((AllByRecursion-at IsThere winners winner lawful.there member).there is)
-        by_seen TooLarge is = absurd (small (record { winner = winner; is = member; large = ap is_large is }))
+        by_seen TooLarge is = absurd (small (record { winner = winner; is = member; large = ap is_too_large is }))
 
     is_folded_path : (winner : Winner) → Contains winners winner → is_folded winner.path ≡ true
     is_folded_path winner member = ap is_folded (AllByRecursion-at IsThere winners winner lawful.there member).folds ∙ fold_gives_folded winner.name

@@ -1,5 +1,4 @@
 pub mod Words
-pub mod Steps
 pub mod Project
 pub mod Layout
 pub mod ProductIds

@@ -38,7 +38,7 @@ cache_counts_lem counts = labelled_lem (codes " wrote ") counts.wrote ++ labelle
 abbrev pub counts_line_lem : Counts → List ℕ
 counts_line_lem counts = work_counts_lem counts ++ product_counts_lem counts ++ cache_counts_lem counts ++ 10 ∷ []
 
--- ---- the files that stand for no path
+-- ---- hidden files and odd names
 
 -- a digit of base 16
 abbrev pub hex_digit_lem : ℕ → ℕ

@@ -51,6 +51,6 @@ pub record IsOver (offers : List Offer) (path : List ℕ) (files : Files) (which
   pub are : AreWinners config files winners
   pub passes : Passes winners which count
 
--- the files that stand for no path
+-- the hidden files and the odd names of a scan
 abbrev pub others_of : Scan → OtherFiles
 others_of scan = record { hidden = scan.hidden; odd = scan.odd }

@@ -1,7 +1,6 @@
 -- Why a project can't be made of what is built so far.
 use Rattle.std.specs.Prelude.{◌≡◌, ◌≢◌, ℕ, Bool, true, false, List, [], Contains}
-use Rattle.ap_text.specs.declared.seen.Seen.{Seen}
-use Rattle.ap_text.specs.declared.seen.Seen.TheVariants.{Bytes, Absent, TooLarge}
+use Rattle.ap_text.specs.declared.seen.Seen.TheVariants.{Bytes}
 use Rattle.ap_config.specs.declared.config.Config.{Config}
 use Rattle.ap_config.specs.declared.offer.Offer.{Offer}
 use Rattle.ap_scan.specs.Winners.{Files}
@@ -11,23 +10,18 @@ use Rattle.ap_rows.specs.Jobs.{Job}
 use Rattle.ap_builder.specs.Meanings.{Meanings}
 use Rattle.ap_sources.specs.Sources.{matching, sources}
 use Rattle.ap_create.specs.Creation.{all_jobs}
+use Rattle.ap_engine.specs.Need.{is_too_large}
 use Rattle.ap_engine.specs.Recorded.{IsUnfree, MakesOne}
 use Rattle.ap_engine.specs.Settled.{settled}
 use Rattle.ap_cli.specs.Project.{IsProject}
 use Rattle.ap_cli.specs.Layout.{AreApart, files_of}
 use Rattle.ap_cli.specs.ProductIds.{AreDistinct, ids_of}
 
--- it has more bytes than are read
-abbrev pub is_large : Seen → Bool
-is_large (Bytes bytes) = false
-is_large Absent = false
-is_large TooLarge = true
-
 -- some winner has more than 4,194,304 bytes
 pub record HasTooLarge (winners : List Winner) : Type 0 where
   pub winner : Winner
   pub is : Contains winners winner
-  pub large : is_large winner.seen ≡ true
+  pub large : is_too_large winner.seen ≡ true
 
 -- some builder of a source declares a target for it
 pub record IsTargeted (builders : Meanings) (config : Config) (winners : List Winner) : Type 0 where

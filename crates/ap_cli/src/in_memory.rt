@@ -15,7 +15,8 @@ use ap_tree::{CacheDir, Sink, SureMemoryCache, SureMemorySink, SureMemoryTree, T
 use std::alloc::Global;
 
 /// Runs one command line over forms in memory that never fail, but where the sink's room is used up. The
-/// statuses are those of `run` without 4, 5 and 6; 7 comes only where the report is longer than the sink's room.
+/// statuses are those of `run` without 4, 5 and 6; over a sound store 7 comes only where the report is
+/// longer than the sink's room.
 pub fn run_in_memory<B: Builders + Sync>(
     alloc: Global,
     words: &[String],

@@ -1,7 +1,7 @@
 use ap_scan::{Hidden, Odd};
 use ap_text::List;
 
-/// The files of the scan folders that stand for no path.
+/// The hidden files and the odd names of the scan folders.
 #[derive(Drop)]
 pub struct OtherFiles {
     /// By their names in lower case, then by order, then by name.

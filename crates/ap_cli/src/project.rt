@@ -9,9 +9,10 @@ ghost use Rattle.ap_builder.specs.Offers.{is_offered};
 ghost use Rattle.ap_builder.specs.Paths.{IsShort};
 ghost use Rattle.ap_sources.specs.Sources.{sources};
 ghost use Rattle.ap_engine.specs.Asked.{meanings_of};
+ghost use Rattle.ap_engine.specs.Need.{is_too_large};
 ghost use Rattle.ap_engine.specs.Worlds.{AreQuiet};
 ghost use Rattle.ap_cli.specs.Project.{config_in, config_at, IsOver};
-ghost use Rattle.ap_cli.specs.Unbuilt.{HasTooLarge, is_large, IsUnbuilt};
+ghost use Rattle.ap_cli.specs.Unbuilt.{HasTooLarge, IsUnbuilt};
 ghost use Rattle.ap_cli.specs.Working.{Configures, IsFound};
 ghost use Rattle.ap_cli.specs.declared.stop.Stop.TheVariants.{Configuration, Tree as TreeStop, Limit, Memory, Unbuilt};
 ghost use Rattle.ap_cli.specs.declared.unconfigured.Unconfigured.{Unconfigured as TheUnconfigured};
@@ -42,10 +43,7 @@ pub(crate) fn read_config<T: Tree, B: Builders>(
     ensures same { T.files tree.new ≡ T.files tree.old }
     ensures later { T.faults tree.old ≤ T.faults tree.new }
 {
-    let offers = match builders.offers(alloc) {
-        Ok(offers) => offers,
-        Err(_) => return Err(Stop::Memory),
-    };
+    let offers = builders.offers(alloc)?;
     let seen = match tree.read(alloc, path.as_str().as_bytes()) {
         Ok(seen) => seen,
         Err(TreeFault::Failed) => return Err(Stop::Tree),
@@ -124,7 +122,7 @@ fn has_too_large(winners: &[Winner]) -> bool
 }
 
 fn is_too_large(winner: &Winner) -> bool
-    ensures { result ≡ is_large winner.now.seen }
+    ensures { result ≡ is_too_large winner.now.seen }
 {
     matches!(winner.seen, Seen::TooLarge)
 }

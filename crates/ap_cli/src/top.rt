@@ -71,8 +71,8 @@ pub fn run<T: Tree, C: CacheDir, D: Disk, B: Builders + Sync, O: Sink>(
         (λ _ _ _. Unit {0}) files file)) }
 
     // A run that ends or is stopped anywhere: at each moment behind the opening's first call the store has the
-    // tables of before after the first of the changes that a run to its end commits. Where the configuration wasn't
-    // read, the store is as before.
+    // tables of before after the first of the changes that a run to its end commits. After 4 and 8 this, or the
+    // store is as before.
     ensures stopped { result ≢ 2 → result ≢ 3 → result ≢ 4 → result ≢ 8 → IfSome (D.seen store.old.0) (λ file. IsSound (meanings_of B.declares B.creates B.makes) file
         → (path : List ℕ) × IsBatch words.now path × Stopped D.seen D.may_leave D.clock D.left_at D.room D.faults store.old store.new (meanings_of B.declares B.creates B.makes) (B.offers builders.now) path (T.files tree.old) file) }
     ensures stopped_early { (result ≡ 4) ⊎ (result ≡ 8) → (store.new ≡ store.old) ⊎ IfSome (D.seen store.old.0) (λ file. IsSound (meanings_of B.declares B.creates B.makes) file

@@ -58,10 +58,8 @@ impl Engine {
             (λ c. IfSome (D.seen store.old.0) (λ old. IsSameStore old c)) }
         ensures cause { IsErrOf result DiskFault → Rose (D.faults store.old.0) (D.faults store.new.0) }
     {
-        match Ledger::open(alloc, store, limit) {
-            Ok(ledger) => Ok(Engine { ledger }),
-            Err(fault) => Err(fault),
-        }
+        let ledger = Ledger::open(alloc, store, limit)?;
+        Ok(Engine { ledger })
     }
 
     /// Brings the tables to what the configuration and its winners settle to: what stands is kept, and only what doesn't

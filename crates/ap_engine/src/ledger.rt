@@ -60,14 +60,12 @@ impl Ledger {
         ensures cause { IsErrOf result DiskFault → Rose (D.faults store.old.0) (D.faults store.new.0) }
     {
         let mut contents = Contents::new(alloc);
-        match Db::open(alloc, store, &mut contents, limit) {
-            Ok(db) => Ok(Ledger {
-                db,
-                contents,
-                alloc,
-            }),
-            Err(fault) => Err(fault),
-        }
+        let db = Db::open(alloc, store, &mut contents, limit)?;
+        Ok(Ledger {
+            db,
+            contents,
+            alloc,
+        })
     }
 
     /// The number of these bytes, with a hold on it.

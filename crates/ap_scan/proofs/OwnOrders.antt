@@ -1,6 +1,6 @@
 -- The folders of a configuration that was read have orders of their own.
 use Rattle.std.proofs.Common.{◌≡◌, ℕ, Bool, true, false, not, List, [], ◌∷◌, Contains, refl, sym, ◌∙◌, ap, subst, ⊎_elim}
-use Rattle.std.specs.Prelude.{◌||◌, nat_eq, Result, Ok, Err}
+use Rattle.std.specs.Prelude.{◌||◌, nat_eq, Ok}
 use Rattle.std.specs.List.{list_any}
 use Rattle.std.proofs.lemmas.Bool.Decides.{Decides-eqb}
 use Rattle.ap_text.proofs.Members.{Contains-none, Contains-cons_cases}
@@ -10,14 +10,9 @@ use Rattle.ap_config.specs.declared.offer.Offer.{Offer}
 use Rattle.ap_config.specs.declared.fault.ConfigFault.{ConfigFault}
 use Rattle.ap_config.specs.declared.fault.ConfigFault.TheVariants.{SameOrder, BadPath}
 use Rattle.ap_config.specs.declared.values.FolderValues.{FolderValues}
-use Rattle.ap_config.specs.declared.values.Values.{Values}
-use Rattle.ap_config.specs.Configuration.{next, passes, is_path, is_in_cache_lem, orders_differ, each_value, folder_of, config_of, config_read, parsed, values_of, builders_of, platforms_of, something_in, folders_have_patterns, builders_have_patterns}
+use Rattle.ap_config.specs.Configuration.{passes, is_path, is_in_cache_lem, orders_differ, each_value, folder_of, config_read, next}
+use Rattle.ap_config.proofs.Parts.{next_ok, same_answer, read_is_made}
 use Rattle.ap_scan.specs.Winners.{HasOwnOrders}
-
--- what was answered was made of what came before
-next-ok : {X Y : Type 0} (r : Result X ConfigFault) (f : X → Result Y ConfigFault) (y : Y) → next r f ≡ Ok y → (x : X) × (r ≡ Ok x) × (f x ≡ Ok y)
-next-ok (Ok x) f y e = (x, refl, e)
-next-ok (Err fault) f y e = cc
 
 passed : (test : Bool) (fault : ConfigFault) (u : Unit {0}) → passes test fault ≡ Ok u → test ≡ false
 passed true fault u e = cc
@@ -27,13 +22,10 @@ both-false : (a b : Bool) → (a || b) ≡ false → (a ≡ false) × (b ≡ fal
 both-false true b e = cc
 both-false false b e = (refl, e)
 
-same-answer : {X : Type 0} {x y : X} → let a : Result X ConfigFault = Ok x in a ≡ Ok y → x ≡ y
-same-answer e = cc
-
 same-order : (values : FolderValues) (folder : Folder) → folder_of values ≡ Ok folder → folder.order ≡ values.order
 same-order values folder e =
-    let made = next-ok (passes (not (is_path values.path) || is_in_cache_lem values.path) (BadPath values.path)) _ folder e in
-    let is = same-answer made.2 in
+    let made = next_ok (passes (not (is_path values.path) || is_in_cache_lem values.path) (BadPath values.path)) _ folder e in
+    let is = same_answer made.2 in
     sym (ap (λ (f : Folder). f.order) is)
 
 pub record Own (earlier : List ℕ) (folders : List Folder) : Type 0 where
@@ -46,9 +38,9 @@ own-orders [] folders earlier u differ made = subst (λ (l : List Folder). Own e
     none : [] ≡ folders
     none = cc
 own-orders (v ∷ vs) folders earlier u differ made =
-    let first = next-ok (passes (list_any (nat_eq v.order) earlier) (SameOrder v.order)) (λ _. orders_differ (v.order ∷ earlier) vs) u differ in
-    let one = next-ok (folder_of v) (λ y. next (each_value folder_of vs) (λ ys. Ok (y ∷ ys))) folders made in
-    let more = next-ok (each_value folder_of vs) (λ ys. Ok (one.0 ∷ ys)) folders one.2 in
+    let first = next_ok (passes (list_any (nat_eq v.order) earlier) (SameOrder v.order)) (λ _. orders_differ (v.order ∷ earlier) vs) u differ in
+    let one = next_ok (folder_of v) (λ y. next (each_value folder_of vs) (λ ys. Ok (y ∷ ys))) folders made in
+    let more = next_ok (each_value folder_of vs) (λ ys. Ok (one.0 ∷ ys)) folders one.2 in
     let whole : one.0 ∷ more.0 ≡ folders = cc more.2 in
     let later = own-orders vs more.0 (v.order ∷ earlier) u first.2 more.1 in
     subst (λ (l : List Folder). Own earlier l) whole (joined one.0 more.0 (same-order v one.0 one.1) (passed (list_any (nat_eq v.order) earlier) (SameOrder v.order) first.0 first.1) later)
@@ -73,20 +65,6 @@ own-orders (v ∷ vs) folders earlier u differ made =
         apart g member same = cc (sym ((both-false (nat_eq g.order v.order) (list_any (nat_eq g.order) earlier) (later.new g member)).0) ∙ (Decides-eqb g.order v.order).1 same)
 
 pub read-has-own-orders : (bytes : List ℕ) (offered : List Offer) (config : Config) → config_read bytes offered ≡ Ok config → HasOwnOrders config.folders
-unfolding config_read
 read-has-own-orders bytes offered config e =
-    let members = next-ok (parsed bytes) (λ m. next (values_of m) (config_of offered)) config e in
-    let values = next-ok (values_of members.0) (config_of offered) config members.2 in
-    made values.0 values.2
-  where
-    made : (values : Values) → config_of offered values ≡ Ok config → HasOwnOrders config.folders
-    made values e =
-        let orders = next-ok (orders_differ [] values.folders) _ config e in
-        let builders = next-ok (builders_of offered [] values.builders) _ config orders.2 in
-        let platforms = next-ok (platforms_of [] values.platforms) _ config builders.2 in
-        let something = next-ok (something_in values) _ config platforms.2 in
-        let folders = next-ok (each_value folder_of values.folders) _ config something.2 in
-        let excludes = next-ok (folders_have_patterns values.folders) _ config folders.2 in
-        let patterns = next-ok (builders_have_patterns values.builders) _ config excludes.2 in
-        let whole : folders.0 ≡ config.folders = ap (λ (c : Config). c.folders) (same-answer patterns.2) in
-        subst HasOwnOrders whole (own-orders values.folders folders.0 [] orders.0 orders.1 folders.1).own
+    let made = (read_is_made bytes offered config e).1 in
+    (own-orders (read_is_made bytes offered config e).0.folders config.folders [] tt made.orders made.folders).own
