@@ -97,7 +97,11 @@ impl Builders for CopyBuilder {
 }
 
 /// One job for each platform.
-fn jobs_for(alloc: Global, builder: &Name, input: &CreateInput) -> Result<Vec<JobDesc>, OutOfMemory>
+pub(crate) fn jobs_for(
+    alloc: Global,
+    builder: &Name,
+    input: &CreateInput,
+) -> Result<Vec<JobDesc>, OutOfMemory>
     ensures { IfOk result (λ jobs. jobs.items ≡ map (copy_job builder.now input.now) input.now.platforms) }
 {
     let mut jobs = Vec::new(alloc);
@@ -143,7 +147,7 @@ fn version_in(listed: &[(Name, u32)], builder: &Name) -> u32
 }
 
 /// The source's bytes under its folded name.
-fn product_of(alloc: Global, input: &JobInput) -> Result<Product, OutOfMemory>
+pub(crate) fn product_of(alloc: Global, input: &JobInput) -> Result<Product, OutOfMemory>
     ensures { IfOk result (λ product. product ≡ copy_product input.now) }
 {
     Ok(Product {

@@ -4,6 +4,7 @@ mod later_runs;
 mod limits;
 mod projects;
 mod stores;
+mod two_builders;
 
 use crate::{CopyBuilder, CopyPass, run};
 use ap_builder::Bench;
