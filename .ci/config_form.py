@@ -32,7 +32,8 @@ class Unconfigured(Exception):
 def tables_of(text):
     """The tables of a TOML text.
 
-    The texts that TOML 1.1 alone takes are refused here, and nesting beyond 80 isn't; no check has either.
+    The texts that TOML 1.1 alone takes are refused here, and nesting beyond 80 isn't; no check that this model reads
+    has either.
     """
     try:
         table = tomllib.loads(text.decode().removeprefix("\ufeff"))
