@@ -4,7 +4,7 @@ import collections
 import re
 import tomllib
 
-from store_form import folded, is_path, is_platform
+from store_form import Refusal, folded, is_path, is_platform
 
 FILE_LIMIT = 4_194_304
 NUMBER_END = 2**32
@@ -15,15 +15,13 @@ Folder = collections.namedtuple("Folder", "order path exclude")
 Config = collections.namedtuple("Config", "platforms folders builders")
 
 
-class Unconfigured(Exception):
-    """Why a file says no configuration, in the words of its line."""
+class Unconfigured(Refusal):
+    """Why a file says no configuration."""
 
-    def __init__(self, *words):
-        super().__init__()
-        self.words = b" ".join(words)
+    status, words = 3, b"configuration: %s"
 
-    def line(self):
-        return b"ap: configuration: " + self.words + b"\n"
+    def __init__(self, *why):
+        super().__init__(b" ".join(why))
 
 
 # ---- the text

@@ -3,15 +3,15 @@
 import collections
 
 from config_form import Offer, Unconfigured, read_config, some_match
-from scan_form import TOO_LARGE, Limit, TreeFault, read, scan
+from scan_form import TOO_LARGE, read, scan
 from store_form import (
     CREATE_INPUT,
     HEADER,
     JOB_INPUT,
     MARK,
     PRODUCTS,
-    BadStore,
     Fields,
+    Refusal,
     Thing,
     behind_length,
     bytes_thing,
@@ -30,18 +30,12 @@ from store_form import (
 LIMIT = 2**32
 
 
-class StoreFull(Exception):
-    def __init__(self, length, wanted):
-        super().__init__()
-        self.length, self.wanted = length, wanted
-
-    def line(self):
-        return b"ap: store full: length %d wanted %d\n" % (self.length, self.wanted)
+class StoreFull(Refusal):
+    status, words = 11, b"store full: length %d wanted %d"
 
 
-class Unbuilt(Exception):
-    def line(self):
-        return b"ap: unbuilt\n"
+class Unbuilt(Refusal):
+    status, words = 13, b"unbuilt"
 
 
 class Unsound(Exception):
@@ -284,9 +278,6 @@ def report(project, entries, tables):
     return b"".join(line + b"\n" for line in lines)
 
 
-STATUSES = {Unconfigured: 3, TreeFault: 4, BadStore: 9, Limit: 10, StoreFull: 11, Unbuilt: 13}
-
-
 class Run:
     """What a run comes to: its status, its output, and the store's file, which is None where there is none."""
 
@@ -294,8 +285,8 @@ class Run:
         self.file = before
         try:
             self.status, self.output = self.go(config, limit)
-        except tuple(STATUSES) as stop:
-            self.status, self.output = STATUSES[type(stop)], stop.line()
+        except Refusal as stop:
+            self.status, self.output = stop.status, stop.line()
         except Unsound:
             self.status, self.output = 99, b""
 

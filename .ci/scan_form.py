@@ -5,7 +5,7 @@ import os
 import stat
 
 from config_form import FILE_LIMIT, some_match
-from store_form import folded, is_path
+from store_form import Refusal, folded, is_path
 
 FILES_LIMIT = 20_000
 BYTES_LIMIT = 268_435_456
@@ -19,18 +19,12 @@ Candidate = collections.namedtuple("Candidate", "path order name file")
 Scan = collections.namedtuple("Scan", "winners hidden odd")
 
 
-class TreeFault(Exception):
-    def line(self):
-        return b"ap: tree fault\n"
+class TreeFault(Refusal):
+    status, words = 4, b"tree fault"
 
 
-class Limit(Exception):
-    def __init__(self, what, count):
-        super().__init__()
-        self.what, self.count = what, count
-
-    def line(self):
-        return b"ap: limit: %s %d\n" % (self.what, self.count)
+class Limit(Refusal):
+    status, words = 10, b"limit: %s %d"
 
 
 # ---- the files of the current folder; links aren't followed

@@ -19,13 +19,19 @@ class Bad(Exception):
     """What doesn't have its form, or isn't lawful."""
 
 
-class BadStore(Exception):
-    def __init__(self, record, offset, why):
+class Refusal(Exception):
+    """A run that is refused. Each kind has its status, and the words of its line, which take the details."""
+
+    def __init__(self, *details, why=""):
         super().__init__(why)
-        self.record, self.offset = record, offset
+        self.details = details
 
     def line(self):
-        return b"ap: bad store: record %d offset %d\n" % (self.record, self.offset)
+        return b"ap: " + self.words % self.details + b"\n"
+
+
+class BadStore(Refusal):
+    status, words = 9, b"bad store: record %d offset %d"
 
 
 # ---- names
@@ -401,7 +407,7 @@ def read_tables(file):
     """The tables of a file, where each record is lawful at its place."""
     payloads, _ = standing(file)
     if payloads and not file.startswith(MARK):
-        raise BadStore(0, 0, "another mark")
+        raise BadStore(0, 0, why="another mark")
     tables = Tables()
     for place, payload in enumerate(payloads, 1):
         fields = Fields(payload)
@@ -410,7 +416,7 @@ def read_tables(file):
             try:
                 tables.take(fields)
             except Bad as fault:
-                raise BadStore(place, begin, str(fault)) from None
+                raise BadStore(place, begin, why=str(fault)) from None
     return tables
 
 
