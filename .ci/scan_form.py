@@ -50,28 +50,31 @@ def read(path):
     return content if len(content) <= FILE_LIMIT else TOO_LARGE
 
 
-def names_below(folder):
-    """The names of the plain files below a folder, from it on."""
+def names_below(folder, exclude):
+    """The names below a folder, from it on: of the plain files, and of what has a name that isn't UTF-8. Folders all of
+    whose files are excluded are passed over."""
 
     def walk(place, front):
+        if any(pattern.endswith(b"*") and some_match([pattern], folded(front)) for pattern in exclude):
+            return
         if len(b"./" + place) > 4096:
             raise TreeFault
         for entry in os.scandir(place):
-            check_utf_8(entry.name)
-            if entry.is_dir(follow_symlinks=False):
-                yield from walk(place + b"/" + entry.name, front + entry.name + b"/")
-            elif entry.is_file(follow_symlinks=False):
+            if not is_utf_8(entry.name) or entry.is_file(follow_symlinks=False):
                 yield front + entry.name
+            elif entry.is_dir(follow_symlinks=False):
+                yield from walk(place + b"/" + entry.name, front + entry.name + b"/")
 
     if kind_of(folder) == stat.S_IFDIR:
         yield from walk(folder, b"")
 
 
-def check_utf_8(name):
+def is_utf_8(name):
     try:
         name.decode()
     except UnicodeDecodeError:
-        raise TreeFault from None
+        return False
+    return True
 
 
 # ---- the scan
@@ -80,7 +83,7 @@ def check_utf_8(name):
 def scan(config):
     candidates, odd = [], []
     for folder in config.folders:
-        for name in names_below(folder.path):
+        for name in names_below(folder.path, folder.exclude):
             if not is_path(name):
                 odd.append((folder.order, name))
             elif not some_match(folder.exclude, folded(name)):
