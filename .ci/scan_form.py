@@ -51,30 +51,30 @@ def read(path):
 
 
 def names_below(folder, exclude):
-    """The names below a folder, from it on: of the plain files, and of what has a name that isn't UTF-8. Folders all of
-    whose files are excluded are passed over."""
+    """The names of the plain files below a folder, from it on. Folders in it all of whose files are excluded aren't
+    looked into."""
 
     def walk(place, front):
-        if any(pattern.endswith(b"*") and some_match([pattern], folded(front)) for pattern in exclude):
-            return
         if len(b"./" + place) > 4096:
             raise TreeFault
         for entry in os.scandir(place):
-            if not is_utf_8(entry.name) or entry.is_file(follow_symlinks=False):
+            check_utf_8(entry.name)
+            if entry.is_file(follow_symlinks=False):
                 yield front + entry.name
             elif entry.is_dir(follow_symlinks=False):
-                yield from walk(place + b"/" + entry.name, front + entry.name + b"/")
+                below = front + entry.name + b"/"
+                if not any(pattern.endswith(b"*") and some_match([pattern], folded(below)) for pattern in exclude):
+                    yield from walk(place + b"/" + entry.name, below)
 
     if kind_of(folder) == stat.S_IFDIR:
         yield from walk(folder, b"")
 
 
-def is_utf_8(name):
+def check_utf_8(name):
     try:
         name.decode()
     except UnicodeDecodeError:
-        return False
-    return True
+        raise TreeFault from None
 
 
 # ---- the scan
