@@ -4,14 +4,16 @@ ghost use Rattle.ap_text.specs.Causes.{Rose};
 
 use crate::disk::{Disk, DiskFault};
 use crate::read_ahead::ReadAhead;
+use ap_system::{Culprit, Failure, Stands, look};
 use ap_text::OutOfMemory;
 use std::fs::{Files, OpenFile, OpenOptions};
 use std::io;
 use std::io::{Read, Seek, SeekFrom, Write};
 
-/// A disk over a real file, which it opens, or makes where it is absent, at the first call. It tells nothing
-/// of its content, and its `rest` does nothing. Small reads one behind another are one call of the system for
-/// some thousand bytes; a write or a cut drops what was read.
+/// A disk over a real file, which it opens, or makes where it is absent, at the first call. A link, a file that has
+/// another name too, and what is no plain file are faults. It tells nothing of its content, and its `rest` does
+/// nothing. Small reads one behind another are one call of the system for some thousand bytes; a write or a cut
+/// drops what was read.
 #[derive(Drop)]
 pub struct FileDisk<R: Files> {
     rt: R,
@@ -20,6 +22,8 @@ pub struct FileDisk<R: Files> {
     ahead: ReadAhead,
     is_folder_synced: bool,
     faults: u64,
+    /// The call that failed last.
+    failed: Option<Failure>,
 }
 
 impl<R: Files + AllocGlobal + Drop> FileDisk<R> {
@@ -33,86 +37,118 @@ impl<R: Files + AllocGlobal + Drop> FileDisk<R> {
             ahead: ReadAhead::new(),
             is_folder_synced: false,
             faults: 0,
+            failed: None,
         })
+    }
+
+    /// The call that failed last, and the path of the file.
+    pub fn culprit(&self) -> Option<Culprit<'_>> {
+        match &self.failed {
+            Some(failure) => Some(Culprit::new(self.path.as_str(), failure)),
+            None => None,
+        }
     }
 }
 
 impl<R: Files + Drop> FileDisk<R> {
     /// The open file, taken out of the disk until it is given back.
-    fn open(&mut self) -> io::Result<R::File>
+    fn open(&mut self) -> Result<R::File, Failure>
         ensures { self.new.faults ≡ self.old.faults }
     {
         match self.file.take() {
             Some(file) => Ok(file),
-            None => OpenOptions::new()
-                .read(true)
-                .write(true)
-                .create(true)
-                .open(&self.rt, self.path.as_str()),
+            None => open_plain(&self.rt, self.path.as_str()),
         }
     }
 
-    fn try_len(&mut self) -> io::Result<u64>
+    fn try_len(&mut self) -> Result<u64, Failure>
         ensures { self.new.faults ≡ self.old.faults }
     {
         let mut file = self.open()?;
         let result = file.seek(SeekFrom::End(0));
         self.file = Some(file);
-        result
+        result.map_err(|error| Failure::new("find the end of", error))
     }
 
-    fn try_read(&mut self, at: u64, buf: &mut [u8]) -> io::Result<usize>
+    fn try_read(&mut self, at: u64, buf: &mut [u8]) -> Result<usize, Failure>
         ensures faults { self.new.faults ≡ self.old.faults }
         ensures count { IfOk result (λ count. count ≤ length buf.old) }
     {
         let mut file = self.open()?;
         let result = self.ahead.read_at(&mut file, at, buf);
         self.file = Some(file);
-        result
+        match result {
+            Ok(count) => Ok(count),
+            Err(error) => Err(Failure::new("read", error)),
+        }
     }
 
-    fn try_write(&mut self, at: u64, bytes: &[u8]) -> io::Result<()>
+    fn try_write(&mut self, at: u64, bytes: &[u8]) -> Result<(), Failure>
         ensures { self.new.faults ≡ self.old.faults }
     {
         self.ahead.forget();
         let mut file = self.open()?;
         let result = write_at(&mut file, at, bytes);
         self.file = Some(file);
-        result
+        result.map_err(|error| Failure::new("write", error))
     }
 
-    fn try_cut(&mut self, len: u64) -> io::Result<()>
+    fn try_cut(&mut self, len: u64) -> Result<(), Failure>
         ensures { self.new.faults ≡ self.old.faults }
     {
         self.ahead.forget();
         let mut file = self.open()?;
         let result = cut_to(&mut file, len);
         self.file = Some(file);
-        result
+        result.map_err(|error| Failure::new("cut", error))
     }
 
-    fn try_sync(&mut self) -> io::Result<()>
+    fn try_sync(&mut self) -> Result<(), Failure>
         ensures { self.new.faults ≡ self.old.faults }
     {
         let file = self.open()?;
         let result = file.sync_all();
         self.file = Some(file);
-        result?;
+        if let Err(error) = result {
+            return Err(Failure::new("sync", error));
+        }
         if !self.is_folder_synced {
-            sync_folder(&self.rt, self.path.as_str())?;
+            if let Err(error) = sync_folder(&self.rt, self.path.as_str()) {
+                return Err(Failure::new("sync the folder of", error));
+            }
             self.is_folder_synced = true;
         }
         Ok(())
     }
 
     /// Counts a fault.
-    fn fault(&mut self) -> DiskFault
+    fn fault(&mut self, failure: Failure) -> DiskFault
         ensures later { self.old.faults ≤ self.new.faults }
         ensures rose { Rose self.old.faults self.new.faults }
     {
         self.faults = self.faults.saturating_add(1);
+        self.failed = Some(failure);
         DiskFault::Failed
     }
+}
+
+/// Opens a plain file that has no other name, or makes it where nothing stands.
+fn open_plain<R: Files>(rt: &R, path: &str) -> Result<R::File, Failure> {
+    let mut how = OpenOptions::new();
+    how.read(true).write(true);
+    match look(rt, path) {
+        Ok(Stands::Nothing) => {
+            how.create_new(true);
+        }
+        Ok(Stands::File { names, .. }) if names <= 1 => {}
+        Ok(Stands::File { .. }) => return Err(Failure::refused("open", "has another name")),
+        Ok(Stands::Link) => return Err(Failure::refused("open", "is a link")),
+        Ok(Stands::Folder) => return Err(Failure::refused("open", "is a folder")),
+        Ok(Stands::Other) => return Err(Failure::refused("open", "is no plain file")),
+        Err(error) => return Err(Failure::new("look at", error)),
+    }
+    how.open(rt, path)
+        .map_err(|error| Failure::new("open", error))
 }
 
 /// Writes at an offset. A gap before it is zeros.
@@ -167,35 +203,35 @@ impl<R: Files + Drop> Disk for FileDisk<R> {
     fn len(&mut self) -> Result<u64, DiskFault> {
         match self.try_len() {
             Ok(len) => Ok(len),
-            Err(_) => Err(self.fault()),
+            Err(failure) => Err(self.fault(failure)),
         }
     }
 
     fn read(&mut self, at: u64, buf: &mut [u8]) -> Result<usize, DiskFault> {
         match self.try_read(at, buf) {
             Ok(count) => Ok(count),
-            Err(_) => Err(self.fault()),
+            Err(failure) => Err(self.fault(failure)),
         }
     }
 
     fn write_at(&mut self, at: u64, bytes: &[u8]) -> Result<(), DiskFault> {
         match self.try_write(at, bytes) {
             Ok(()) => Ok(()),
-            Err(_) => Err(self.fault()),
+            Err(failure) => Err(self.fault(failure)),
         }
     }
 
     fn cut(&mut self, len: u64) -> Result<(), DiskFault> {
         match self.try_cut(len) {
             Ok(()) => Ok(()),
-            Err(_) => Err(self.fault()),
+            Err(failure) => Err(self.fault(failure)),
         }
     }
 
     fn sync(&mut self) -> Result<(), DiskFault> {
         match self.try_sync() {
             Ok(()) => Ok(()),
-            Err(_) => Err(self.fault()),
+            Err(failure) => Err(self.fault(failure)),
         }
     }
 

@@ -1,5 +1,6 @@
 ghost use Rattle.std.specs.Prelude.{◌≤◌, length, IfOk};
 
+use ap_system::fill;
 use std::io;
 use std::io::{Read, Seek, SeekFrom};
 
@@ -75,13 +76,5 @@ fn read_all_at<F: Read + Seek>(file: &mut F, at: u64, buf: &mut [u8]) -> io::Res
     ensures { IfOk result (λ count. count ≤ length buf.old) }
 {
     file.seek(SeekFrom::Start(at))?;
-    let mut count = 0;
-    while count < buf.len() {
-        let more = file.read(&mut buf[count..])?;
-        if more == 0 {
-            break;
-        }
-        count += more;
-    }
-    Ok(count)
+    fill(file, buf)
 }
