@@ -67,7 +67,7 @@ fn list_folder<T: Tree>(
     ensures same { T.files tree.new ≡ T.files tree.old }
     ensures later { T.faults tree.old ≤ T.faults tree.new }
 {
-    let names = match tree.list(alloc, &folder.path) {
+    let names = match tree.list(alloc, &folder.path, folder.exclude.as_slice()) {
         Ok(names) => names,
         Err(fault) => return Err(fault_of(fault)),
     };

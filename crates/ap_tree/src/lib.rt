@@ -11,6 +11,7 @@ mod dir_cache;
 mod dir_tree;
 mod edits;
 mod folder;
+mod listing;
 mod lookup;
 mod memory_cache;
 mod memory_sink;

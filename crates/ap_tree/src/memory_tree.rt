@@ -42,11 +42,16 @@ impl Tree for MemoryTree {
 
     ghost distinct = { λ t. t.tree.distinct };
 
-    fn list(&mut self, alloc: Global, folder: &RelPath) -> Result<Vec<Bytes>, TreeFault> {
+    fn list(
+        &mut self,
+        alloc: Global,
+        folder: &RelPath,
+        exclude: &[Bytes],
+    ) -> Result<Vec<Bytes>, TreeFault> {
         if self.calls.next_fails() {
             return Err(TreeFault::Failed);
         }
-        self.tree.list(alloc, folder)
+        self.tree.list(alloc, folder, exclude)
     }
 
     fn read(&mut self, alloc: Global, path: &[u8]) -> Result<Seen, TreeFault> {

@@ -40,7 +40,12 @@ impl Tree for SureMemoryTree {
 
     ghost distinct = { λ t. t.distinct };
 
-    fn list(&mut self, alloc: Global, folder: &RelPath) -> Result<Vec<Bytes>, TreeFault> {
+    fn list(
+        &mut self,
+        alloc: Global,
+        folder: &RelPath,
+        _exclude: &[Bytes],
+    ) -> Result<Vec<Bytes>, TreeFault> {
         list_below(alloc, &self.files, folder.as_slice()).map_err(|_| TreeFault::OutOfMemory)
     }
 

@@ -1,4 +1,5 @@
 use crate::*;
+use ap_system::Culprit;
 use ap_text::{Bytes, RelPath, Seen};
 use std::alloc::Global;
 use std::fs::OpenOptions;
@@ -69,8 +70,29 @@ fn shown(alloc: Global, seen: Option<Seen>) -> Result<String, Fail> {
 }
 
 fn tree_names(tree: &mut impl Tree, alloc: Global, folder: &str) -> Result<String, Fail> {
+    names_but(tree, alloc, folder, &[])
+}
+
+fn names_but(
+    tree: &mut impl Tree,
+    alloc: Global,
+    folder: &str,
+    exclude: &[&str],
+) -> Result<String, Fail> {
     let folder = RelPath::read(alloc, folder.as_bytes())?;
-    joined(alloc, tree.list(alloc, &folder)?)
+    let mut patterns = Vec::new(alloc);
+    for pattern in exclude {
+        patterns.push(Bytes::of(pattern.as_bytes().to_vec(alloc)?))?;
+    }
+    joined(alloc, tree.list(alloc, &folder, &patterns)?)
+}
+
+/// What is told of a failure, or `none`.
+fn told(alloc: Global, culprit: Option<Culprit<'_>>) -> Result<String, Fail> {
+    match culprit {
+        Some(culprit) => Ok(culprit.to_string(alloc)?),
+        None => Ok(String::from_str(alloc, "none")?),
+    }
 }
 
 fn files_of(alloc: Global, files: &[(&str, &str)]) -> Result<Vec<(Bytes, Bytes)>, Fail> {
@@ -111,6 +133,25 @@ fn tree_in_a_folder(rt: HostRuntime) -> Result<(), Fail> {
         let answer = tree_names(&mut tree, alloc, below)?;
         assert!(rt; answer.as_str() == names, "{below}: {answer}");
     }
+    let but = [
+        ("game", ["sub/*", "x"], "a b.txt|"),
+        ("game", ["SUB/D*", "x"], "a b.txt|sub/\u{e9}.txt|"),
+        (
+            "game",
+            ["sub", "sub/"],
+            "a b.txt|sub/deep/c|sub/\u{e9}.txt|",
+        ),
+        (
+            "game",
+            ["*c", "*.txt"],
+            "a b.txt|sub/deep/c|sub/\u{e9}.txt|",
+        ),
+        ("game/sub", ["*", "x"], "\u{e9}.txt|"),
+    ];
+    for (below, exclude, names) in but {
+        let answer = names_but(&mut tree, alloc, below, &exclude)?;
+        assert!(rt; answer.as_str() == names, "{below}: {answer}");
+    }
     let read = [
         ("game/a b.txt", "bytes 1"),
         ("game/sub/\u{e9}.txt", "bytes 22"),
@@ -131,11 +172,14 @@ fn tree_in_a_folder(rt: HostRuntime) -> Result<(), Fail> {
         assert!(rt; answer.as_str() == seen, "{path}: {answer}");
     }
     assert_eq!(rt; tree.faults(), 0);
+    assert!(rt; told(alloc, tree.culprit())?.as_str() == "none");
     for count in 1..3u64 {
         let answer = tree.read(alloc, b"game/\xff");
         assert!(rt; answer.err() == Some(TreeFault::Failed));
         assert_eq!(rt; tree.faults(), count);
     }
+    assert!(rt; told(alloc, tree.culprit())?.as_str() == "reach \"\": the path isn't UTF-8");
+    assert!(rt; tree.too_large().is_none());
     fs::remove_dir_all(&rt, root)?;
     assert!(rt; tree_names(&mut tree, alloc, "game")?.is_empty());
     Ok(())
@@ -152,7 +196,7 @@ fn tree_in_a_folder_takes_no_larger_file(rt: HostRuntime) -> Result<(), Fail> {
         let mut tree = DirTree::new(rt, folder.as_str())?;
         match tree.read(alloc, b"file") {
             Ok(Seen::Bytes(bytes)) => assert!(rt; is_taken && bytes.as_slice().len() as u64 == len),
-            Ok(Seen::TooLarge) => assert!(rt; !is_taken),
+            Ok(Seen::TooLarge) => assert!(rt; !is_taken && tree.too_large() == Some("file")),
             _ => assert!(rt; false, "{len}"),
         }
     }
@@ -263,6 +307,44 @@ fn cache_passes_no_link(rt: HostRuntime) -> Result<(), Fail> {
 }
 
 #[test]
+fn cache_replaces_files_whole(rt: HostRuntime) -> Result<(), Fail> {
+    let alloc = rt.alloc();
+    let folder = make_folder(&rt, "whole")?;
+    let root = folder.as_str();
+    put(&rt, root, "source", b"source")?;
+    put(&rt, root, "cache/pc/other", b"other")?;
+    put(
+        &rt,
+        root,
+        "cache/.ap.new",
+        b"left by a run that was stopped",
+    )?;
+    let source = format!(in alloc; "{root}/source")?;
+    let product = format!(in alloc; "{root}/cache/pc/a")?;
+    fs::hard_link(&rt, source.as_str(), product.as_str())?;
+    let path = format!(in alloc; "{root}/cache")?;
+    let mut cache = DirCache::new(rt, path.as_str())?;
+    cache.write(alloc, b"pc/a", b"product")?;
+    assert!(rt; shown(alloc, cache.read(alloc, b"pc/a").ok())?.as_str() == "bytes product");
+    assert!(rt; fs::read(&rt, source.as_str())?.as_slice() == b"source".as_slice());
+    assert!(rt; cache_names(&mut cache, alloc)?.as_str() == "pc/a|pc/other|");
+    assert!(rt; cache.write(alloc, b".ap.new", b"").is_err());
+    link(&rt, "cache", root, "linked")?;
+    let path = format!(in alloc; "{root}/linked")?;
+    let mut linked = DirCache::new(rt, path.as_str())?;
+    assert!(rt; linked.read(alloc, b"pc/a").err() == Some(CacheFault::Failed));
+    assert!(rt; linked.write(alloc, b"pc/a", b"changed").err() == Some(CacheFault::Failed));
+    assert!(rt; linked.remove(alloc, b"pc/a").err() == Some(CacheFault::Failed));
+    assert!(rt; linked.list(alloc).err() == Some(CacheFault::Failed));
+    assert_eq!(rt; linked.faults(), 4);
+    let wanted = format!(in alloc; "open \"{path}\": is a link")?;
+    assert!(rt; told(alloc, linked.culprit())?.as_str() == wanted.as_str());
+    assert!(rt; shown(alloc, cache.read(alloc, b"pc/a").ok())?.as_str() == "bytes product");
+    fs::remove_dir_all(&rt, root)?;
+    Ok(())
+}
+
+#[test]
 fn sink_over_a_file(rt: HostRuntime) -> Result<(), Fail> {
     let alloc = rt.alloc();
     let folder = make_folder(&rt, "sink")?;
@@ -277,6 +359,10 @@ fn sink_over_a_file(rt: HostRuntime) -> Result<(), Fail> {
         assert!(rt; full.write(b"ok\n").err() == Some(SinkFault::Failed));
         assert_eq!(rt; full.faults(), count);
     }
+    assert!(rt;
+        told(alloc, full.culprit("full"))?.as_str()
+            == "write \"full\": No space left on device (os error 28)"
+    );
     fs::remove_dir_all(&rt, folder.as_str())?;
     Ok(())
 }

@@ -23,8 +23,14 @@ pub trait Tree {
     ghost faults: { Self → ℕ };
 
     /// The names of all files below a folder, relative to it, each once and in any order. An absent folder
-    /// has none.
-    fn list(&mut self, alloc: Global, folder: &RelPath) -> Result<Vec<Bytes>, TreeFault>
+    /// has none. A tree that doesn't tell its files may leave out those of a folder in it whose names, whatever
+    /// they are, all match a pattern of `exclude`, as `some_matches` has it.
+    fn list(
+        &mut self,
+        alloc: Global,
+        folder: &RelPath,
+        exclude: &[Bytes],
+    ) -> Result<Vec<Bytes>, TreeFault>
         ensures names { IfOk result (λ names. IfSome (files self.old) (λ all. IsPermutation (names_below folder.now all) names.items)) }
         ensures same { files self.new ≡ files self.old }
         ensures cause { HasCause Failed (faults self.old) (faults self.new) result };
