@@ -186,7 +186,12 @@ impl Tree for NumberedTree {
 
     ghost distinct = { λ _. tt };
 
-    fn list(&mut self, alloc: Global, _folder: &RelPath) -> Result<Vec<Bytes>, TreeFault> {
+    fn list(
+        &mut self,
+        alloc: Global,
+        _folder: &RelPath,
+        _exclude: &[Bytes],
+    ) -> Result<Vec<Bytes>, TreeFault> {
         match numbered(alloc, self.files) {
             Ok(names) => Ok(names),
             Err(_) => Err(TreeFault::OutOfMemory),
