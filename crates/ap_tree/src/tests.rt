@@ -77,14 +77,10 @@ fn names_but(
     tree: &mut impl Tree,
     alloc: Global,
     folder: &str,
-    exclude: &[&str],
+    exclude: &[Bytes],
 ) -> Result<String, Fail> {
     let folder = RelPath::read(alloc, folder.as_bytes())?;
-    let mut patterns = Vec::new(alloc);
-    for pattern in exclude {
-        patterns.push(Bytes::of(pattern.as_bytes().to_vec(alloc)?))?;
-    }
-    joined(alloc, tree.list(alloc, &folder, &patterns)?)
+    joined(alloc, tree.list(alloc, &folder, exclude)?)
 }
 
 /// What is told of a failure, or `none`.
@@ -133,25 +129,6 @@ fn tree_in_a_folder(rt: HostRuntime) -> Result<(), Fail> {
         let answer = tree_names(&mut tree, alloc, below)?;
         assert!(rt; answer.as_str() == names, "{below}: {answer}");
     }
-    let but = [
-        ("game", ["sub/*", "x"], "a b.txt|"),
-        ("game", ["SUB/D*", "x"], "a b.txt|sub/\u{e9}.txt|"),
-        (
-            "game",
-            ["sub", "sub/"],
-            "a b.txt|sub/deep/c|sub/\u{e9}.txt|",
-        ),
-        (
-            "game",
-            ["*c", "*.txt"],
-            "a b.txt|sub/deep/c|sub/\u{e9}.txt|",
-        ),
-        ("game/sub", ["*", "x"], "\u{e9}.txt|"),
-    ];
-    for (below, exclude, names) in but {
-        let answer = names_but(&mut tree, alloc, below, &exclude)?;
-        assert!(rt; answer.as_str() == names, "{below}: {answer}");
-    }
     let read = [
         ("game/a b.txt", "bytes 1"),
         ("game/sub/\u{e9}.txt", "bytes 22"),
@@ -172,14 +149,11 @@ fn tree_in_a_folder(rt: HostRuntime) -> Result<(), Fail> {
         assert!(rt; answer.as_str() == seen, "{path}: {answer}");
     }
     assert_eq!(rt; tree.faults(), 0);
-    assert!(rt; told(alloc, tree.culprit())?.as_str() == "none");
     for count in 1..3u64 {
         let answer = tree.read(alloc, b"game/\xff");
         assert!(rt; answer.err() == Some(TreeFault::Failed));
         assert_eq!(rt; tree.faults(), count);
     }
-    assert!(rt; told(alloc, tree.culprit())?.as_str() == "reach \"\": the path isn't UTF-8");
-    assert!(rt; tree.too_large().is_none());
     fs::remove_dir_all(&rt, root)?;
     assert!(rt; tree_names(&mut tree, alloc, "game")?.is_empty());
     Ok(())
@@ -196,7 +170,7 @@ fn tree_in_a_folder_takes_no_larger_file(rt: HostRuntime) -> Result<(), Fail> {
         let mut tree = DirTree::new(rt, folder.as_str())?;
         match tree.read(alloc, b"file") {
             Ok(Seen::Bytes(bytes)) => assert!(rt; is_taken && bytes.as_slice().len() as u64 == len),
-            Ok(Seen::TooLarge) => assert!(rt; !is_taken && tree.too_large() == Some("file")),
+            Ok(Seen::TooLarge) => assert!(rt; !is_taken),
             _ => assert!(rt; false, "{len}"),
         }
     }
@@ -306,40 +280,103 @@ fn cache_passes_no_link(rt: HostRuntime) -> Result<(), Fail> {
     Ok(())
 }
 
+/// What a list of the folder `game` has where this is excluded.
+fn names_without(tree: &mut impl Tree, alloc: Global, pattern: &str) -> Result<String, Fail> {
+    let pattern = Bytes::of(pattern.as_bytes().to_vec(alloc)?);
+    names_but(tree, alloc, "game", &[pattern])
+}
+
 #[test]
-fn cache_replaces_files_whole(rt: HostRuntime) -> Result<(), Fail> {
+fn excluded_folders_are_passed_over(rt: HostRuntime) -> Result<(), Fail> {
+    let alloc = rt.alloc();
+    let folder = make_folder(&rt, "exclude")?;
+    let root = folder.as_str();
+    put(&rt, root, "game/a.txt", b"1")?;
+    put(&rt, root, "game/sub/b.txt", b"2")?;
+    put(&rt, root, "game/sub/deep/c", b"3")?;
+    let mut tree = DirTree::new(rt, root)?;
+    for (pattern, names) in [
+        ("sub/*", "a.txt|"),
+        ("SUB/D*", "a.txt|sub/b.txt|"),
+        ("sub", "a.txt|sub/b.txt|sub/deep/c|"),
+        ("*c", "a.txt|sub/b.txt|sub/deep/c|"),
+        ("*", "a.txt|"),
+    ] {
+        let answer = names_without(&mut tree, alloc, pattern)?;
+        assert!(rt; answer.as_str() == names, "{pattern}: {answer}");
+    }
+    fs::remove_dir_all(&rt, root)?;
+    Ok(())
+}
+
+#[test]
+fn a_failed_read_is_told(rt: HostRuntime) -> Result<(), Fail> {
+    let alloc = rt.alloc();
+    let mut tree = DirTree::new(rt, ".")?;
+    assert!(rt; told(alloc, tree.culprit())?.as_str() == "none");
+    assert!(rt; tree.read(alloc, b"game/\xff").is_err());
+    assert!(rt; told(alloc, tree.culprit())?.as_str() == "reach \"\": the path isn't UTF-8");
+    Ok(())
+}
+
+#[test]
+fn a_failed_write_is_told(rt: HostRuntime) -> Result<(), Fail> {
+    let mut full = StdSink::new(OpenOptions::new().write(true).open(&rt, "/dev/full")?);
+    assert!(rt; full.write(b"ok\n").is_err());
+    let text = told(rt.alloc(), full.culprit("full"))?;
+    assert!(rt; text.as_str() == "write \"full\": No space left on device (os error 28)");
+    Ok(())
+}
+
+#[test]
+fn a_file_that_is_too_large_is_told(rt: HostRuntime) -> Result<(), Fail> {
+    let alloc = rt.alloc();
+    let folder = make_folder(&rt, "told")?;
+    let path = format!(in alloc; "{folder}/file")?;
+    fs::create(&rt, path.as_str())?.set_len(4_194_305)?;
+    let mut tree = DirTree::new(rt, folder.as_str())?;
+    assert!(rt; tree.too_large().is_none());
+    let _ = tree.read(alloc, b"file")?;
+    assert!(rt; tree.too_large() == Some("file"));
+    fs::remove_dir_all(&rt, folder.as_str())?;
+    Ok(())
+}
+
+#[test]
+fn no_file_that_stood_there_is_written(rt: HostRuntime) -> Result<(), Fail> {
     let alloc = rt.alloc();
     let folder = make_folder(&rt, "whole")?;
     let root = folder.as_str();
     put(&rt, root, "source", b"source")?;
-    put(&rt, root, "cache/pc/other", b"other")?;
-    put(
-        &rt,
-        root,
-        "cache/.ap.new",
-        b"left by a run that was stopped",
-    )?;
+    put(&rt, root, "pc/other", b"other")?;
+    put(&rt, root, ".ap.new", b"left by a run that was stopped")?;
     let source = format!(in alloc; "{root}/source")?;
-    let product = format!(in alloc; "{root}/cache/pc/a")?;
+    let product = format!(in alloc; "{root}/pc/a")?;
     fs::hard_link(&rt, source.as_str(), product.as_str())?;
+    let mut cache = DirCache::new(rt, root)?;
+    cache.write(alloc, b"pc/a", b"product")?;
+    assert!(rt; fs::read(&rt, source.as_str())?.as_slice() == b"source".as_slice());
+    let names = cache_names(&mut cache, alloc)?;
+    assert!(rt; names.as_str() == "pc/a|pc/other|source|", "{names}");
+    fs::remove_dir_all(&rt, root)?;
+    Ok(())
+}
+
+#[test]
+fn a_cache_that_is_a_link_fails(rt: HostRuntime) -> Result<(), Fail> {
+    let alloc = rt.alloc();
+    let folder = make_folder(&rt, "linked")?;
+    let root = folder.as_str();
+    put(&rt, root, "there/a", b"1")?;
+    link(&rt, "there", root, "cache")?;
     let path = format!(in alloc; "{root}/cache")?;
     let mut cache = DirCache::new(rt, path.as_str())?;
-    cache.write(alloc, b"pc/a", b"product")?;
-    assert!(rt; shown(alloc, cache.read(alloc, b"pc/a").ok())?.as_str() == "bytes product");
-    assert!(rt; fs::read(&rt, source.as_str())?.as_slice() == b"source".as_slice());
-    assert!(rt; cache_names(&mut cache, alloc)?.as_str() == "pc/a|pc/other|");
-    assert!(rt; cache.write(alloc, b".ap.new", b"").is_err());
-    link(&rt, "cache", root, "linked")?;
-    let path = format!(in alloc; "{root}/linked")?;
-    let mut linked = DirCache::new(rt, path.as_str())?;
-    assert!(rt; linked.read(alloc, b"pc/a").err() == Some(CacheFault::Failed));
-    assert!(rt; linked.write(alloc, b"pc/a", b"changed").err() == Some(CacheFault::Failed));
-    assert!(rt; linked.remove(alloc, b"pc/a").err() == Some(CacheFault::Failed));
-    assert!(rt; linked.list(alloc).err() == Some(CacheFault::Failed));
-    assert_eq!(rt; linked.faults(), 4);
+    assert!(rt; cache.read(alloc, b"a").is_err());
+    assert!(rt; cache.write(alloc, b"a", b"2").is_err());
+    assert!(rt; cache.remove(alloc, b"a").is_err());
+    assert!(rt; cache.list(alloc).is_err());
     let wanted = format!(in alloc; "open \"{path}\": is a link")?;
-    assert!(rt; told(alloc, linked.culprit())?.as_str() == wanted.as_str());
-    assert!(rt; shown(alloc, cache.read(alloc, b"pc/a").ok())?.as_str() == "bytes product");
+    assert!(rt; told(alloc, cache.culprit())?.as_str() == wanted.as_str());
     fs::remove_dir_all(&rt, root)?;
     Ok(())
 }
@@ -359,10 +396,6 @@ fn sink_over_a_file(rt: HostRuntime) -> Result<(), Fail> {
         assert!(rt; full.write(b"ok\n").err() == Some(SinkFault::Failed));
         assert_eq!(rt; full.faults(), count);
     }
-    assert!(rt;
-        told(alloc, full.culprit("full"))?.as_str()
-            == "write \"full\": No space left on device (os error 28)"
-    );
     fs::remove_dir_all(&rt, folder.as_str())?;
     Ok(())
 }
