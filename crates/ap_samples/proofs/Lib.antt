@@ -1,0 +1,4 @@
+pub mod Places
+pub mod Splitting
+pub mod Decimals
+pub mod Gathering

@@ -1,0 +1,10 @@
+use Rattle.std.proofs.Common.{◌≡◌, ◌++◌, length}
+use Rattle.std.specs.List.{filter_map}
+use Rattle.ap_samples.specs.Creating.{key_in}
+use Rattle.ap_samples.proofs.creating.first_key.Given as goal
+
+abbrev pub invariant-loop-rest : goal.invariant-loop-rest
+invariant-loop-rest l = filter_map key_in l.rest ≡ filter_map key_in l.directives
+
+abbrev pub decreases-loop-rest : goal.decreases-loop-rest
+decreases-loop-rest l = length l.rest
